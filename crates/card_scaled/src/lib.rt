@@ -1,0 +1,8 @@
+//! How many rows the join of a set of relations has: scaled numbers, and cardinalities by set.
+#![tactic(auto)]
+
+mod cards;
+mod scaled;
+
+pub use cards::{CardTable, rows_once};
+pub use scaled::Scaled;

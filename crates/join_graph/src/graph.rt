@@ -1,0 +1,161 @@
+ghost use Rattle.std.specs.Prelude.{◌≡◌, ℕ, ◌<◌, ◌≤◌, ◌↔◌, IsTrue, MatchOption, IsNone, IfSome, All};
+ghost use Rattle.dpe_base.specs.Sets.{Has, Within, full};
+ghost use Rattle.join_graph.specs.Graphs.{JoinGraph, graph_of, Crossed, Connected, Edge, other_end, adjacent_to, adjacency, IsNeighbours, IsFrontier, IsGrown, IsFirstUnreached, IsGraph};
+
+use dpe_base::{N_MAX, Pred, Query, RelSet};
+use std::marker::Model;
+
+/// The join graph of a query: how many relations, and the neighbours of each.
+#[derive(Clone, Copy, Debug)]
+pub struct Graph {
+    n: u8,
+    adjacent: [RelSet; N_MAX],
+}
+
+impl Model for Graph {
+    ghost use Rattle.join_graph.specs.Graphs.{JoinGraph, IsGraph};
+
+    ghost Value = { JoinGraph };
+
+    ghost view = { λ g. record { n = g.n; adjacent = g.adjacent } };
+
+    ghost invariant = { λ g. IsGraph (record { n = g.n; adjacent = g.adjacent }) };
+
+    ghost inverse = { λ v. record { n = v.n; adjacent = v.adjacent } };
+}
+
+// The other end of a predicate with an end at `r`.
+#[tactic(auto, unfolding(crate::specs::Graphs::other_end))]
+fn other_end(r: u8, p: &Pred) -> RelSet
+    requires { (p.now.low < p.now.high) × (p.now.high < N_MAX) }
+    ensures { result ≡ other_end r p.now }
+{
+    if p.low == r {
+        RelSet::single(p.high)
+    } else if p.high == r {
+        RelSet::single(p.low)
+    } else {
+        RelSet::empty()
+    }
+}
+
+// The relations that a predicate joins to `r`.
+#[tactic(auto, unfolding(crate::specs::Graphs::adjacent_to))]
+fn adjacent_to(preds: &[Pred], r: u8) -> RelSet
+    requires { All (λ p. (p.low < p.high) × (p.high < N_MAX)) preds.now }
+    ensures { result ≡ adjacent_to preds.now r }
+{
+    let mut all = RelSet::empty();
+    for p in preds {
+        all = all.union(other_end(r, p));
+    }
+    all
+}
+
+// The neighbours of each relation.
+fn adjacency(preds: &[Pred]) -> [RelSet; N_MAX]
+    requires { All (λ p. (p.low < p.high) × (p.high < N_MAX)) preds.now }
+    ensures { result ≡ adjacency preds.now }
+{
+    let mut adjacent = [RelSet::empty(); N_MAX];
+    for r in 0..N_MAX {
+        adjacent[r] = adjacent_to(preds, r as u8);
+    }
+    adjacent
+}
+
+impl Graph {
+    pub fn of(query: &Query) -> Graph
+        ensures { result ≡ graph_of query.now }
+    {
+        Graph {
+            n: query.n(),
+            adjacent: adjacency(query.preds()),
+        }
+    }
+
+    pub fn n(&self) -> u8
+        ensures value { result ≡ self.now.n }
+        ensures valid { IsGraph self.now }
+    {
+        self.n
+    }
+
+    // The relations that are joined to one in `s`.
+    fn gathered(&self, s: RelSet) -> RelSet
+        requires { Within s (full self.now.n) }
+        ensures { (t : ℕ) → Has result t ↔ ((k : ℕ) × Has s k × Edge self.now k t) }
+    {
+        let mut all = RelSet::empty();
+        for r in 0..self.n {
+            if s.has(r) {
+                all = all.union(self.adjacent[r as usize]);
+            }
+        }
+        all
+    }
+
+    /// The relations outside `s` that are joined to one in `s`.
+    pub fn neighbours(&self, s: RelSet) -> RelSet
+        requires { Within s (full self.now.n) }
+        ensures { IsNeighbours self.now s result }
+    {
+        self.gathered(s).minus(s)
+    }
+
+    /// Whether an edge has one end in `a` and the other in `b`.
+    pub fn joined(&self, a: RelSet, b: RelSet) -> bool
+        requires a_in { Within a (full self.now.n) }
+        requires b_in { Within b (full self.now.n) }
+        ensures { IsTrue result ↔ Crossed self.now a b }
+    {
+        let _n = self.n;
+        self.gathered(a).meets(b)
+    }
+
+    // The relations of `s` outside `part` that are joined to one in `part`.
+    fn frontier(&self, part: RelSet, s: RelSet) -> RelSet
+        requires { Within part (full self.now.n) }
+        ensures { IsFrontier self.now part s result }
+    {
+        let outside = self.neighbours(part);
+        outside.minus(outside.minus(s))
+    }
+
+    // What a walk inside `s` reaches from `first`.
+    fn grown(&self, first: u8, s: RelSet) -> RelSet
+        requires within { Within s (full self.now.n) }
+        requires first { Has s first }
+        ensures { IsGrown self.now first s result }
+    {
+        let _n = self.n;
+        let mut part = RelSet::single(first);
+        let mut more = self.frontier(part, s);
+        'walk: while more.bits() != 0 {
+            part = part.union(more);
+            more = self.frontier(part, s);
+        }
+        part
+    }
+
+    /// Whether every split of `s` into two parts that are not empty is crossed by an edge.
+    pub fn connected(&self, s: RelSet) -> bool
+        requires { Within s (full self.now.n) }
+        ensures { IsTrue result ↔ Connected self.now s }
+    {
+        let _n = self.n;
+        match s.least() {
+            None => false,
+            Some(first) => self.grown(first, s).bits() == s.bits(),
+        }
+    }
+
+    /// The least relation that no walk from relation 0 reaches.
+    pub fn first_unreached(&self) -> Option<u8>
+        ensures none { IsNone result ↔ Connected self.now (full self.now.n) }
+        ensures some { IfSome result (λ r. IsFirstUnreached self.now r) }
+    {
+        let all = RelSet::full(self.n);
+        all.minus(self.grown(0, all)).least()
+    }
+}

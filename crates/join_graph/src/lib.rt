@@ -1,0 +1,7 @@
+//! The join graph of a query: which relations its predicates join, and which sets are connected.
+#![tactic(auto)]
+
+mod graph;
+pub mod laws;
+
+pub use graph::Graph;

@@ -1,0 +1,108 @@
+-- Join trees: their sets, costs and words, the legal ones, the best words and the plan, and the trees
+-- that a list of pairs makes. A model is given by its number, and a set of relations by its number.
+use Rattle.std.specs.Prelude.{◌≡◌, ℕ, ◌+◌, ◌*◌, ◌<◌, ◌≤◌, ◌⊎◌, List, Contains}
+use Rattle.dpe_base.specs.declared.TheConstants.{COST_LIMIT, SPAN}
+use Rattle.dpe_base.specs.declared.pair.Pair.{Pair}
+use Rattle.dpe_base.specs.Queries.{JoinQuery, relations}
+use Rattle.dpe_base.specs.Sets.{union, single, Disjoint, size}
+use Rattle.join_graph.specs.Graphs.{JoinGraph, Crossed, Pairs, pair_of, graph_of}
+use Rattle.join_graph.specs.PairLists.{SideBuilt}
+use Rattle.card_scaled.specs.Cards.{rows}
+use Rattle.cost_model.specs.Costs.{operators, join_cost}
+use Rattle.cost_model.specs.Words.{word, best_word}
+
+-- a relation, or a join of two trees by an operator
+pub data JoinTree : Type 0 where
+  leaf : ℕ → JoinTree
+  join : ℕ → JoinTree → JoinTree → JoinTree
+
+-- the set of the tree's leaves
+abbrev pub set_of : JoinTree → ℕ
+set_of (leaf r) = single r
+set_of (join op left right) = union (set_of left) (set_of right)
+
+abbrev pub LeavesBelow : ℕ → JoinTree → Type 0
+LeavesBelow n (leaf r) = r < n
+LeavesBelow n (join op left right) = LeavesBelow n left × LeavesBelow n right
+
+-- a bushy tree without cross products
+abbrev pub Legal : ℕ → JoinGraph → JoinTree → Type 0
+Legal kind g (leaf r) = r < g.n
+Legal kind g (join op left right) =
+    (op < operators kind)
+    × Legal kind g left
+    × Legal kind g right
+    × Disjoint (set_of left) (set_of right)
+    × Crossed g (set_of left) (set_of right)
+
+abbrev pub cost : ℕ → JoinQuery → JoinTree → ℕ
+cost kind q (leaf r) = 0
+cost kind q (join op left right) =
+    cost kind q left + cost kind q right
+    + join_cost kind op (rows q (set_of left)) (rows q (set_of right)) (rows q (union (set_of left) (set_of right)))
+
+-- the word of a tree, or EMPTY where it costs COST_LIMIT or more
+abbrev pub root_word : ℕ → JoinQuery → JoinTree → ℕ
+root_word kind q (leaf r) = 3 * SPAN + single r
+root_word kind q (join op left right) = word (cost kind q (join op left right)) op (set_of left)
+
+-- w is the word of the tree
+pub record HasWord (kind : ℕ) (q : JoinQuery) (t : JoinTree) (w : ℕ) : Type 0 where
+  pub below : cost kind q t < COST_LIMIT
+  pub is : root_word kind q t ≡ w
+
+-- w is the word of a legal tree over s, and no legal tree over s has a smaller word
+pub record Best (kind : ℕ) (q : JoinQuery) (s w : ℕ) : Type 0 where
+  pub some : (t : JoinTree) × Legal kind (graph_of q) t × (set_of t ≡ s) × HasWord kind q t w
+  pub least : (t : JoinTree) (v : ℕ) → Legal kind (graph_of q) t → set_of t ≡ s → HasWord kind q t v → w ≤ v
+
+-- P holds of the tree and of each tree in it
+abbrev pub EverySubtree : (JoinTree → Type 0) → JoinTree → Type 0
+EverySubtree P (leaf r) = P (leaf r)
+EverySubtree P (join op left right) = P (join op left right) × EverySubtree P left × EverySubtree P right
+
+-- the legal tree over s in which each tree has the best word of its set
+pub record Plan (kind : ℕ) (q : JoinQuery) (s : ℕ) (t : JoinTree) : Type 0 where
+  pub legal : Legal kind (graph_of q) t
+  pub over : set_of t ≡ s
+  pub best : EverySubtree (λ u. Best kind q (set_of u) (root_word kind q u)) t
+
+-- the trees that the pairs of the list make: the leaves of q, and each join whose two sets, in either
+-- order, are a pair of the list
+abbrev pub Trees : ℕ → JoinQuery → List Pair → JoinTree → Type 0
+Trees kind q pairs (leaf r) = r < relations q
+Trees kind q pairs (join op left right) =
+    (op < operators kind)
+    × Trees kind q pairs left
+    × Trees kind q pairs right
+    × (Contains pairs (pair_of (set_of left) (set_of right)) ⊎ Contains pairs (pair_of (set_of right) (set_of left)))
+
+-- w is the word of a tree over s that the pairs make
+pub record Made (kind : ℕ) (q : JoinQuery) (pairs : List Pair) (s w : ℕ) : Type 0 where
+  pub tree : JoinTree
+  pub made : Trees kind q pairs tree
+  pub over : set_of tree ≡ s
+  pub word : HasWord kind q tree w
+
+-- and no smaller word is
+pub record Least (kind : ℕ) (q : JoinQuery) (pairs : List Pair) (s w : ℕ) : Type 0 where
+  pub made : Made kind q pairs s w
+  pub least : (v : ℕ) → Made kind q pairs s v → w ≤ v
+
+-- v is the least word of the pair over both orders and all operators, on the least words of its sides
+pub record SplitWord (kind : ℕ) (q : JoinQuery) (pairs : List Pair) (p : Pair) (v : ℕ) : Type 0 where
+  pub first : ℕ
+  pub second : ℕ
+  pub least_first : Least kind q pairs p.a first
+  pub least_second : Least kind q pairs p.b second
+  pub is : v ≡ best_word kind p.a p.b first second (rows q p.a) (rows q p.b) (rows q (union p.a p.b))
+
+-- w is the least of these words over the pairs of the list with union s
+pub record LeastSplit (kind : ℕ) (q : JoinQuery) (pairs : List Pair) (s w : ℕ) : Type 0 where
+  pub some : (p : Pair) × Contains pairs p × (union p.a p.b ≡ s) × SplitWord kind q pairs p w
+  pub least : (p : Pair) (v : ℕ) → Contains pairs p → union p.a p.b ≡ s → SplitWord kind q pairs p v → w ≤ v
+
+-- the pairs are pairs of the graph, and their sides are made of pairs
+pub record Builds (g : JoinGraph) (pairs : List Pair) : Type 0 where
+  pub within : (p : Pair) → Contains pairs p → Pairs g p
+  pub sides : (p : Pair) → Contains pairs p → SideBuilt pairs p.a × SideBuilt pairs p.b
