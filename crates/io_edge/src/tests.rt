@@ -23,7 +23,11 @@ fn a_source_is_read_to_its_end_or_names_the_cause(rt: HostRuntime) -> Result<(),
                 assert_eq!(rt; want, None);
                 assert_eq!(rt; read.as_slice(), TEXT);
             }
-            Err(end) => assert_eq!(rt; want, Some(end), "piece {piece}, failing call {fails}, limit {limit}"),
+            Err(end) => assert_eq!(rt;
+                want,
+                Some(end),
+                "piece {piece}, failing call {fails}, limit {limit}"
+            ),
         }
     }
     Ok(())
@@ -42,8 +46,16 @@ fn a_sink_takes_all_or_a_proper_prefix(rt: HostRuntime) -> Result<(), Fail> {
     for (room, piece, fails, want, count) in cases {
         assert!(rt; piece >= 1 && count <= 6);
         let mut sink = MemSink::new(alloc, room, piece, [fails].to_vec(alloc)?)?;
-        assert_eq!(rt; write_all(&mut sink, TEXT), want, "room {room}, piece {piece}, failing call {fails}");
-        assert_eq!(rt; sink.written(), &TEXT[..count], "room {room}, piece {piece}, failing call {fails}");
+        assert_eq!(rt;
+            write_all(&mut sink, TEXT),
+            want,
+            "room {room}, piece {piece}, failing call {fails}"
+        );
+        assert_eq!(rt;
+            sink.written(),
+            &TEXT[..count],
+            "room {room}, piece {piece}, failing call {fails}"
+        );
     }
     Ok(())
 }
