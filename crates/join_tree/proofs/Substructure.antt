@@ -58,7 +58,7 @@ module _ (q : JoinQuery) (pairs : List Pair) (ok : IsQuery q) (builds : Builds (
 
 module _ (kind : ℕ) (q : JoinQuery) (pairs : List Pair) (ok : IsQuery q) (builds : Builds (graph_of q) pairs) where
   made_connected : (t : JoinTree) → Trees kind q pairs t → Connected (graph_of q) (set_of t)
-  made_connected t m = legal_connected kind q t (made_legal kind q pairs builds.within t m)
+  made_connected t m = legal_connected kind (graph_of q) t (made_legal kind q pairs builds.within t m)
 
   -- the cost is read back from the word
   cost_read : (t : JoinTree) (w : ℕ) → Trees kind q pairs t → HasWord kind q t w → word_cost w ≡ cost kind q t

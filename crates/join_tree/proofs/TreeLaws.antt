@@ -3,15 +3,16 @@ use Rattle.std.proofs.Common.{◌≡◌, ℕ, ◌↔◌, inl, inr, List, Contain
 use Rattle.dpe_base.specs.declared.pair.Pair.{Pair}
 use Rattle.dpe_base.specs.Queries.{JoinQuery, IsQuery}
 use Rattle.dpe_base.specs.Sets.{union}
-use Rattle.join_graph.specs.Graphs.{Connected, Pairs, pair_of, graph_of}
+use Rattle.join_graph.specs.Graphs.{JoinGraph, Connected, Pairs, pair_of, graph_of}
 use Rattle.join_graph.proofs.GraphLaws.{crossed_back, connected_union, connected_single, pair_either, grown_pair}
 use Rattle.join_graph.specs.PairLists.{SideBuilt}
 use Rattle.join_tree.specs.Trees.{JoinTree, leaf, join, set_of, Legal, Trees, Builds}
 
-pub legal_connected : (kind : ℕ) (q : JoinQuery) (t : JoinTree) → Legal kind (graph_of q) t → Connected (graph_of q) (set_of t)
-legal_connected kind q (leaf r) l = connected_single (graph_of q) r l
-legal_connected kind q (join op left right) l =
-    connected_union (graph_of q) (set_of left) (set_of right) (legal_connected kind q left l.1) (legal_connected kind q right l.2) l.4
+-- the leaves of a legal tree are a connected set
+pub legal_connected : (kind : ℕ) (g : JoinGraph) (t : JoinTree) → Legal kind g t → Connected g (set_of t)
+legal_connected kind g (leaf r) l = connected_single g r l
+legal_connected kind g (join op left right) l =
+    connected_union g (set_of left) (set_of right) (legal_connected kind g left l.1) (legal_connected kind g right l.2) l.4
 
 -- the members of the list are the pairs of q
 abbrev AllPairs : JoinQuery → List Pair → Type 0
@@ -23,7 +24,7 @@ legal_made kind q pairs ok all (join op left right) l = (
   l.0,
   legal_made kind q pairs ok all left l.1,
   legal_made kind q pairs ok all right l.2,
-  elim (pair_either (graph_of q) (set_of left) (set_of right) ok.few (legal_connected kind q left l.1) (legal_connected kind q right l.2) l.3 l.4) [
+  elim (pair_either (graph_of q) (set_of left) (set_of right) ok.few (legal_connected kind (graph_of q) left l.1) (legal_connected kind (graph_of q) right l.2) l.3 l.4) [
     | inl p ↦ inl ((all (pair_of (set_of left) (set_of right))).1 p)
     | inr p ↦ inr ((all (pair_of (set_of right) (set_of left))).1 p)
   ],

@@ -4,7 +4,7 @@ use Rattle.std.specs.Prelude.{◌≡◌, ℕ, ◌+◌, ◌*◌, ◌<◌, ◌≤�
 use Rattle.dpe_base.specs.declared.TheConstants.{COST_LIMIT, SPAN}
 use Rattle.dpe_base.specs.declared.pair.Pair.{Pair}
 use Rattle.dpe_base.specs.Queries.{JoinQuery, relations}
-use Rattle.dpe_base.specs.Sets.{union, single, Disjoint, size}
+use Rattle.dpe_base.specs.Sets.{union, single, Disjoint}
 use Rattle.join_graph.specs.Graphs.{JoinGraph, Crossed, Pairs, pair_of, graph_of}
 use Rattle.join_graph.specs.PairLists.{SideBuilt}
 use Rattle.card_scaled.specs.Cards.{rows}

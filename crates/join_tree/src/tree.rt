@@ -1,9 +1,15 @@
-ghost use Rattle.std.specs.Prelude.{◌≡◌, ℕ, ◌<◌};
-ghost use Rattle.dpe_base.specs.Sets.{Has};
-ghost use Rattle.join_tree.specs.Trees.{LeavesBelow, set_of};
+ghost use Rattle.std.specs.Prelude.{◌≡◌, ℕ, ◌<◌, ◌≤◌, ◌^◌, ◌↔◌, IsTrue, MatchOption};
+ghost use Rattle.dpe_base.specs.Sets.{Has, union};
+ghost use Rattle.join_graph.specs.Graphs.{Connected, graph_of};
+ghost use Rattle.card_scaled.specs.Cards.{rows};
+ghost use Rattle.cost_model.specs.Costs.{operators, join_cost};
+ghost use Rattle.join_tree.specs.Trees.{LeavesBelow, set_of, Legal, cost, root_word};
 ghost use Rattle.join_tree.specs.TreeOf.{tree_of};
 
-use dpe_base::RelSet;
+use card_scaled::rows_once;
+use cost_model::{CostModel, Word};
+use dpe_base::{COST_LIMIT, Query, RelSet};
+use join_graph::Graph;
 
 /// A join tree.
 #[derive(Debug, Drop)]
@@ -16,7 +22,26 @@ pub enum Tree {
     },
 }
 
+// What the operator costs on two connected sets.
+fn operator_cost<M: CostModel>(
+    model: &M,
+    query: &Query,
+    op: u8,
+    left: RelSet,
+    right: RelSet,
+) -> u128
+    requires op { op < operators M.KIND }
+    requires left { Connected (graph_of query.now) left }
+    requires right { Connected (graph_of query.now) right }
+    ensures value { result ≡ join_cost M.KIND op (rows query.now left) (rows query.now right) (rows query.now (union left right)) }
+    ensures small { result < 2 ^ 90 }
+{
+    let (l, r) = (rows_once(query, left), rows_once(query, right));
+    model.cost(op, l, r, rows_once(query, left.union(right)))
+}
+
 impl Tree {
+    /// The set of the leaves.
     pub fn set(&self) -> RelSet
         requires { LeavesBelow 32 (tree_of self.now) }
         ensures { result ≡ set_of (tree_of self.now) }
@@ -24,6 +49,57 @@ impl Tree {
         match self {
             Tree::Leaf(r) => RelSet::single(*r),
             Tree::Join { op: _, left, right } => left.set().union(right.set()),
+        }
+    }
+
+    /// Whether each leaf is a relation of the graph, and each join has an operator of the model and two
+    /// sides without a common leaf that a predicate joins.
+    pub fn legal<M: CostModel>(&self, model: &M, graph: &Graph) -> bool
+        ensures { IsTrue result ↔ Legal M.KIND graph.now (tree_of self.now) }
+    {
+        let n = graph.n();
+        match self {
+            Tree::Leaf(r) => *r < n,
+            Tree::Join { op, left, right } => {
+                if *op >= M::OPS || !left.legal(model, graph) || !right.legal(model, graph) {
+                    return false;
+                }
+                let (l, r) = (left.set(), right.set());
+                !l.meets(r) && graph.joined(l, r)
+            }
+        }
+    }
+
+    /// The cost of all joins together.
+    pub fn cost<M: CostModel>(&self, model: &M, query: &Query) -> u128
+        requires { Legal M.KIND (graph_of query.now) (tree_of self.now) }
+        ensures { result ≡ cost M.KIND query.now (tree_of self.now) }
+    {
+        let _n = query.n();
+        match self {
+            Tree::Leaf(_) => 0,
+            Tree::Join { op, left, right } => {
+                let (l, r) = (left.set(), right.set());
+                let join = operator_cost(model, query, *op, l, r);
+                left.cost(model, query) + right.cost(model, query) + join
+            }
+        }
+    }
+
+    /// The word of the tree: its cost, the operator of its root and the left set. `None` exactly where
+    /// the cost is `COST_LIMIT` or more.
+    pub fn root_word<M: CostModel>(&self, model: &M, query: &Query) -> Option<Word>
+        requires { Legal M.KIND (graph_of query.now) (tree_of self.now) }
+        ensures { MatchOption
+            result
+            (COST_LIMIT ≤ cost M.KIND query.now (tree_of self.now))
+            (λ w. (cost M.KIND query.now (tree_of self.now) < COST_LIMIT) × (w ≡ root_word M.KIND query.now (tree_of self.now))) }
+    {
+        let _n = query.n();
+        let cost = self.cost(model, query);
+        match self {
+            Tree::Leaf(r) => Word::of(cost, 3, RelSet::single(*r)),
+            Tree::Join { op, left, right: _ } => Word::of(cost, *op, left.set()),
         }
     }
 }
