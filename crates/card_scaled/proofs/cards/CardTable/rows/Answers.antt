@@ -1,6 +1,6 @@
-use Rattle.std.proofs.Common.{◌≡◌, ◌<◌, arith, ap, sym, ◌∙◌, subst, length, slice_index}
+use Rattle.std.proofs.Common.{◌<◌, arith, ap, sym, subst, length}
 use Rattle.dpe_base.specs.Sets.{Within, full}
-use Rattle.card_scaled.proofs.CardSteps.{table_place, table_entry, table_rows}
+use Rattle.card_scaled.proofs.TableSteps.{table_place, table_entry, table_rows}
 use Rattle.card_scaled.proofs.cards.CardTable.rows.Goals as goal
 
 pub index-requires : goal.index-requires
