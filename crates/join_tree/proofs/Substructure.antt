@@ -11,7 +11,7 @@ use Rattle.join_graph.specs.Graphs.{Connected, Pairs, pair_of, graph_of}
 use Rattle.card_scaled.specs.Scaled.{rounded}
 use Rattle.card_scaled.specs.Cards.{rows}
 use Rattle.cost_model.specs.Costs.{operators, join_cost}
-use Rattle.cost_model.specs.Words.{word, word_cost, side_word, best_word}
+use Rattle.cost_model.specs.Words.{word, word_cost, split_word, best_word}
 use Rattle.cost_model.proofs.WordLaws.{word-below, word_mono, word_cost-word, word_not_empty, best_below_le, best_below_is}
 use Rattle.join_graph.specs.PairLists.{SideBuilt}
 use Rattle.join_tree.specs.Trees.{JoinTree, leaf, join, set_of, cost, root_word, HasWord, Trees, Made, Least, SplitWord, LeastSplit, Builds}
@@ -119,7 +119,7 @@ module _ (kind : ℕ) (q : JoinQuery) (pairs : List Pair) (ok : IsQuery q) (buil
 
   -- the word that a join of a and b gives, on these words of theirs
   abbrev joined_word : ℕ → ℕ → ℕ → ℕ → ℕ → ℕ
-  joined_word op a b wa wb = side_word kind op a wa wb (rows q a) (rows q b) (rows q (union a b))
+  joined_word op a b wa wb = split_word kind op a wa wb (rows q a) (rows q b) (rows q (union a b))
 
   abbrev InEither : ℕ → ℕ → Type 0
   InEither a b = Contains pairs (pair_of a b) ⊎ Contains pairs (pair_of b a)
@@ -214,9 +214,9 @@ module _ (kind : ℕ) (q : JoinQuery) (pairs : List Pair) (ok : IsQuery q) (buil
                   subst (Made kind q pairs (union p.a p.b)) (sym is)
                   (sets_made one.0 p.a p.b split.first split.second one.1 split.least_first.made split.least_second.made (inl c) (λ z. split_not_empty p v c split (is ∙ z)))
               | inr e ↦
-                  let is : v ≡ side_word kind one.0 p.b split.second split.first (rows q p.b) (rows q p.a) (rows q (union p.a p.b)) = split.is ∙ e in
-                  let turn : side_word kind one.0 p.b split.second split.first (rows q p.b) (rows q p.a) (rows q (union p.b p.a)) ≡ side_word kind one.0 p.b split.second split.first (rows q p.b) (rows q p.a) (rows q (union p.a p.b)) =
-                  ap (λ u. side_word kind one.0 p.b split.second split.first (rows q p.b) (rows q p.a) (rows q u)) (union_turned p.a p.b) in
+                  let is : v ≡ split_word kind one.0 p.b split.second split.first (rows q p.b) (rows q p.a) (rows q (union p.a p.b)) = split.is ∙ e in
+                  let turn : split_word kind one.0 p.b split.second split.first (rows q p.b) (rows q p.a) (rows q (union p.b p.a)) ≡ split_word kind one.0 p.b split.second split.first (rows q p.b) (rows q p.a) (rows q (union p.a p.b)) =
+                  ap (λ u. split_word kind one.0 p.b split.second split.first (rows q p.b) (rows q p.a) (rows q u)) (union_turned p.a p.b) in
                   let made : Made kind q pairs (union p.b p.a) (joined_word one.0 p.b p.a split.second split.first) =
                   sets_made one.0 p.b p.a split.second split.first one.1 split.least_second.made split.least_first.made (inr c) (λ z. split_not_empty p v c split (is ∙ sym turn ∙ z)) in
                   subst (λ x. Made kind q pairs x v) (union_turned p.a p.b) (subst (Made kind q pairs (union p.b p.a)) (turn ∙ sym is) made)
@@ -260,7 +260,7 @@ module _ (kind : ℕ) (q : JoinQuery) (pairs : List Pair) (ok : IsQuery q) (buil
               split.least (pair_of (set_of r) (set_of l)) x.0 c e' x.1,
               x.1.is,
               (best_below_le (operators kind) kind op (set_of r) (set_of l) x.1.first x.1.second (rows q (set_of r)) (rows q (set_of l)) (rows q (union (set_of r) (set_of l))) m.0).1,
-              ap (λ u. side_word kind op (set_of l) x.1.second x.1.first (rows q (set_of l)) (rows q (set_of r)) (rows q u)) (union_turned (set_of l) (set_of r)),
+              ap (λ u. split_word kind op (set_of l) x.1.second x.1.first (rows q (set_of l)) (rows q (set_of r)) (rows q u)) (union_turned (set_of l) (set_of r)),
               join_least op x.1.second x.1.first v l r m h x.1.least_second x.1.least_first,
             )
       ]
