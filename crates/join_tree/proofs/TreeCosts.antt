@@ -12,12 +12,7 @@ use Rattle.cost_model.specs.Words.{word}
 use Rattle.cost_model.proofs.WordLaws.{word-below}
 use Rattle.cost_model.proofs.CostLaws.{join_cost_below}
 use Rattle.join_tree.specs.Trees.{JoinTree, leaf, join, set_of, cost, Legal, LeavesBelow}
-use Rattle.join_tree.proofs.TreeLaws.{legal_connected}
-
--- the leaves of a legal tree are below any number that the graph's relations are below
-pub legal_leaves : (kind n : ℕ) (g : JoinGraph) (t : JoinTree) → g.n ≤ n → Legal kind g t → LeavesBelow n t
-legal_leaves kind n g (leaf r) le l = omega (arith, l)
-legal_leaves kind n g (join op left right) le l = (legal_leaves kind n g left le l.1, legal_leaves kind n g right le l.2)
+use Rattle.join_tree.proofs.TreeLaws.{legal_connected, legal_leaves}
 
 pub rows_bounds : (q : JoinQuery) (s : ℕ) → (1 ≤ rows q s) × (rows q s ≤ ROW_CAP)
 unfolding rows rounded

@@ -33,7 +33,9 @@ fn operator_cost<M: CostModel>(
     requires op { op < operators M.KIND }
     requires left { Connected (graph_of query.now) left }
     requires right { Connected (graph_of query.now) right }
-    ensures value { result ≡ join_cost M.KIND op (rows query.now left) (rows query.now right) (rows query.now (union left right)) }
+    ensures value { result ≡
+        join_cost M.KIND op (rows query.now left) (rows query.now right)
+        (rows query.now (union left right)) }
     ensures small { result < 2 ^ 90 }
 {
     let (l, r) = (rows_once(query, left), rows_once(query, right));
