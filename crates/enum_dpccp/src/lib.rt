@@ -1,10 +1,9 @@
-//! The pairs by their first sides, each with its second sides: work in proportion to the number of pairs.
+//! DPccp: the pairs by their first sides, each with its second sides, in work that is in proportion to
+//! the number of pairs.
 #![tactic(auto)]
 
-mod ccp;
+mod dpccp;
 mod growth;
 mod sides;
-#[cfg(test)]
-mod tests;
 
-pub use ccp::DpCcp;
+pub use dpccp::DpCcp;

@@ -3,13 +3,12 @@ use Rattle.std.proofs.Common.{◌≡◌, ◌≢◌, ◌↔◌, ℕ, zero, suc, �
 use Rattle.std.specs.List.{Contains, list_all}
 use Rattle.std.proofs.lemmas.Bool.{cases_eq, cond-true, cond-false, eqb-true, eqb-false, eq-eqb, ne_eqb, and_parts, and_from, or_cases, or_left, or_right, not-true, not_from_false}
 use Rattle.dpe_base.specs.Sets.{Has, Within, Disjoint, Meets, member, union, minus, full}
-use Rattle.dpe_base.proofs.SetLaws.{sets, same_set, member-same}
+use Rattle.dpe_base.proofs.SetLaws.{sets, same_set, member-same, empty_has, union_left, union_right, union_cases, rest_apart, rest_whole}
 use Rattle.join_graph.specs.Graphs.{JoinGraph, IsGraph, Edge, Crossed, Connected, IsNeighbours}
 use Rattle.join_graph.proofs.Edges.{neighbours_from, crossed_from}
 use Rattle.join_graph.proofs.GraphLaws.{crossed_more}
 use Rattle.pair_stream.specs.Subsets.{is_within, meets, subsets}
 use Rattle.pair_stream.specs.Connectivity.{adjacent_if_member, adjacent_to_members, neighbours, is_connected, is_crossed_at}
-use Rattle.pair_stream.proofs.SetMembers.{empty_has, union_left, union_right, union_cases, minus_apart, minus_whole}
 use Rattle.pair_stream.proofs.Lists.{contains_none, contains_head, contains_tail, contains_cases}
 use Rattle.pair_stream.proofs.SubsetLaws.{is_within_true, meets_true, subsets_has, positive}
 
@@ -103,7 +102,7 @@ split_from g s a ok c l w =
       | inl e ↦ or_left (nat_eq a s) (meets (adjacent_to_members g a g.n) (minus s a)) (eq-eqb a s e)
       | inr ne ↦
           or_right (nat_eq a s) (meets (adjacent_to_members g a g.n) (minus s a))
-          ((joined_true g a (minus s a) ok).1 (c.split a (minus s a) (λ e. omega (arith, e)) (λ e. ne (all e)) (minus_apart s a) (minus_whole s a w)))
+          ((joined_true g a (minus s a) ok).1 (c.split a (minus s a) (λ e. omega (arith, e)) (λ e. ne (all e)) (rest_apart s a) (rest_whole s a w)))
     ]
   where
     all : minus s a ≡ 0 → a ≡ s

@@ -1,10 +1,10 @@
 -- The list by unions is complete and ordered.
-use Rattle.std.proofs.Common.{◌≡◌, ◌≢◌, ◌↔◌, ℕ, ◌<◌, inl, inr, arith, sym, ◌∙◌, ap, subst, true, false, ◌&&◌, List, [], map, nat_eq}
+use Rattle.std.proofs.Common.{◌≡◌, ◌↔◌, ℕ, ◌<◌, inl, inr, arith, sym, ◌∙◌, ap, subst, true, false, ◌&&◌, List, [], map, nat_eq}
 use Rattle.std.specs.List.{AllPairs, Contains, filter, range_with_len}
-use Rattle.std.proofs.lemmas.Bool.{cases_eq, cases_Bool, cond-true, cond-false, eqb-true, eq-eqb, and_parts, and_from}
+use Rattle.std.proofs.lemmas.Bool.{cases_Bool, cond-true, cond-false, eqb-true, eq-eqb, and_parts, and_from}
 use Rattle.dpe_base.specs.declared.pair.Pair.{Pair}
 use Rattle.dpe_base.specs.Sets.{Has, Within, Disjoint, IsLeast, member, union, minus, full}
-use Rattle.dpe_base.proofs.SetLaws.{sets, same_set}
+use Rattle.dpe_base.proofs.SetLaws.{sets, same_set, rest_apart, rest_whole, union_left, union_right, least_same}
 use Rattle.dpe_base.proofs.NextSubset.{within_le}
 use Rattle.join_graph.specs.Graphs.{JoinGraph, IsGraph, Connected, Pairs, pair_of}
 use Rattle.join_graph.proofs.GraphLaws.{connected_union}
@@ -13,37 +13,15 @@ use Rattle.pair_stream.specs.Connectivity.{is_connected}
 use Rattle.pair_stream.specs.Orders.{BuildsSide, Ordered, Complete}
 use Rattle.pair_stream.specs.Dpsub.{is_split, splits_of, seq_dpsub}
 use Rattle.pair_stream.proofs.Lists.{contains_none, contains_map, contains_from_map, contains_filter, contains_from_filter, passes_from_filter, contains_flat_map, contains_from_flat_map, contains_range, pairs_nil, pairs_map, pairs_filter, pairs_flat_map, pairs_range}
-use Rattle.pair_stream.proofs.SubsetLaws.{subsets_has, subsets_ascend, least_is}
+use Rattle.pair_stream.proofs.SubsetLaws.{subsets_has, subsets_ascend, least_is, positive}
 use Rattle.pair_stream.proofs.ConnectivityLaws.{is_connected_true}
 use Rattle.pair_stream.proofs.OrderLaws.{MayPrecede, builds_itself, complete_from, ordered_from}
 
--- a part of s and the rest
-rest_apart : (s a : ℕ) → Disjoint a (minus s a)
-rest_apart s a r h k = grind (arith, sets)
-
-rest_whole : (s a : ℕ) → Within a s → union a (minus s a) ≡ s
-rest_whole s a w = same_set _ _ (λ r. at r (w r))
-  where
-    at : (r : ℕ) → (Has a r → Has s r) → member (union a (minus s a)) r ≡ member s r
-    at r f = grind (arith, sets)
-
-rest_is : (a b : ℕ) → Disjoint a b → minus (union a b) a ≡ b
-rest_is a b d = same_set _ _ (λ r. at r (d r))
+rest_of_union : (a b : ℕ) → Disjoint a b → minus (union a b) a ≡ b
+rest_of_union a b d = same_set _ _ (λ r. at r (d r))
   where
     at : (r : ℕ) → (Has a r → Has b r → ⊥) → member (minus (union a b) a) r ≡ member b r
     at r f = grind (arith, sets)
-
-union_left : (a b r : ℕ) → Has a r → Has (union a b) r
-union_left a b r h = grind (arith, sets)
-
-union_right : (a b r : ℕ) → Has b r → Has (union a b) r
-union_right a b r h = grind (arith, sets)
-
-positive : (a : ℕ) → a ≢ 0 → 0 < a
-positive a ne = elim (cases_eq a 0) [ inl e ↦ absurd (ne e) | inr x ↦ omega arith ]
-
-least_one : (s i k : ℕ) → IsLeast s i → IsLeast s k → i ≡ k
-least_one s i k a b = omega (arith, a.1 k b.0, b.1 i a.0)
 
 module _ (g : JoinGraph) (ok : IsGraph g) where
   -- s is connected, and a with the least relation of s and the rest are connected
@@ -98,7 +76,7 @@ module _ (g : JoinGraph) (ok : IsGraph g) where
         apart = rest_apart s a;
         crossed = x.whole.split a (minus s a) x.first.some x.second.some (rest_apart s a) (rest_whole s a x.within);
         least = λ r l.
-            let same : least s ≡ r = least_one s (least s) r (least_is s g.n x.whole.within ok.few x.whole.some) (subst (λ k. IsLeast k r) (rest_whole s a x.within) l) in
+            let same : least s ≡ r = least_same s (least s) r (least_is s g.n x.whole.within ok.few x.whole.some) (subst (λ k. IsLeast k r) (rest_whole s a x.within) l) in
             subst (Has a) same x.least;
       }
 
@@ -134,7 +112,7 @@ module _ (g : JoinGraph) (ok : IsGraph g) where
       c = connected_union g p.a p.b h.first h.second h.crossed
 
       rest : minus (union p.a p.b) p.a ≡ p.b
-      rest = rest_is p.a p.b h.apart
+      rest = rest_of_union p.a p.b h.apart
 
       same : pair_of p.a (minus (union p.a p.b) p.a) ≡ p
       same = ap (pair_of p.a) rest

@@ -6,7 +6,7 @@ use Rattle.std.proofs.lemmas.Bool.{cond-true, cond-false, eqb-true, and_parts, f
 use Rattle.dpe_base.specs.declared.TheConstants.{N_MAX}
 use Rattle.dpe_base.specs.declared.pair.Pair.{Pair}
 use Rattle.dpe_base.specs.Sets.{Has, Within, IsLeast, IsNextSubset, member, union, minus, single, full}
-use Rattle.dpe_base.proofs.SetLaws.{sets, member-same}
+use Rattle.dpe_base.proofs.SetLaws.{sets, member-same, has_some, full_limit, minus_left, least_same}
 use Rattle.dpe_base.proofs.NextSubset.{within_le}
 use Rattle.join_graph.specs.Graphs.{JoinGraph, IsGraph, Connected, pair_of}
 use Rattle.pair_stream.specs.Subsets.{least, subsets_after, IsNextWithLeast}
@@ -14,7 +14,6 @@ use Rattle.pair_stream.specs.Connectivity.{is_connected}
 use Rattle.pair_stream.specs.Orders.{Ordered, Complete}
 use Rattle.pair_stream.specs.Streams.{is_over}
 use Rattle.pair_stream.specs.Dpsub.{is_split, splits_of, seq_dpsub, dpsub_left}
-use Rattle.pair_stream.proofs.SetMembers.{has_some, full_below, minus_left, least_one}
 use Rattle.pair_stream.proofs.SubsetLaws.{subsets_skip, subsets_last, least_is}
 use Rattle.pair_stream.proofs.NextWithLeast.{next_with_least}
 use Rattle.pair_stream.proofs.ConnectivityLaws.{is_connected_true}
@@ -136,11 +135,11 @@ pub some_after : (a s t : ℕ) → IsNextSubset a s t → s ≡ 0 → ⊥
 some_after a s t n e = omega (arith, n.greater, within_le t s n.within)
 
 pub least_has_room : (s l : ℕ) → Within s (full N_MAX) → IsLeast s l → l < N_MAX
-least_has_room s l w m = full_below N_MAX l (w l m.0)
+least_has_room s l w m = full_limit N_MAX l (w l m.0)
 
 pub next_by_code : (s whole n l low t : ℕ) → Within whole (full N_MAX) → IsNextSubset s whole n → IsLeast whole l → low ≡ single l → t ≡ union n low → IsNextWithLeast s whole t
 next_by_code s whole n l low t w x m el et =
-    next_with_least s whole n l t x m (least_one whole (least whole) l (least_is whole N_MAX w (omega arith) (has_some whole l m.0)) m) (et ∙ ap (union n) el)
+    next_with_least s whole n l t x m (least_same whole (least whole) l (least_is whole N_MAX w (omega arith) (has_some whole l m.0)) m) (et ∙ ap (union n) el)
 
 -- the measure: sets left, then subsets left
 pub fewer_subsets : (f s a t : ℕ) → IsNextWithLeast a s t → (f - s) * 2 ^ 32 + (s - t) < (f - s) * 2 ^ 32 + (s - a)

@@ -9,7 +9,7 @@ use Rattle.std.proofs.lemmas.Nat.Bits.{and_pow, bit_at_cat_low, bit_at-lt, bit_a
 use Rattle.dpe_base.specs.Sets.{Has, Within, IsLeast, IsNextSubset, member, union, single}
 use Rattle.dpe_base.proofs.NextSubset.{within_le}
 use Rattle.pair_stream.specs.Subsets.{least, IsNextWithLeast}
-use Rattle.pair_stream.proofs.SetMembers.{single_has, single_one, union_left, union_right, within_union, within_same}
+use Rattle.dpe_base.proofs.SetLaws.{single_has, single_one, union_left, union_right, union_within, within_same}
 
 -- no digit below the least member is set
 low_digits : (s whole l : ℕ) → Within s whole → IsLeast whole l → s % 2 ^ l ≡ 0
@@ -52,14 +52,14 @@ next_low s u whole l w v m ne lt =
 pub next_with_least : (s whole n l t : ℕ) → IsNextSubset s whole n → IsLeast whole l → least whole ≡ l → t ≡ union n (single l) → IsNextWithLeast s whole t
 next_with_least s whole n l t x m e et =
     record {
-      within = subst (λ (k : ℕ). Within k whole) (sym et) (within_union n (single l) whole x.within (λ r h. subst (Has whole) (single_one l r h) m.0));
+      within = subst (λ (k : ℕ). Within k whole) (sym et) (union_within n (single l) whole x.within (λ r h. subst (Has whole) (single_one l r h) m.0));
       greater = omega (arith, x.greater, et, within_le n (union n (single l)) (λ r h. union_left n (single l) r h));
       has = subst (Has t) (sym e) (subst (λ (k : ℕ). Has k l) (sym et) (union_right n (single l) l (single_has l)));
       next = λ u w h lt. omega (arith, et, at u w (subst (Has u) e h) (x.next u w lt));
     }
   where
     has_it : Has n l → union n (single l) ≡ n
-    has_it h = within_same (union n (single l)) n (within_union n (single l) n (λ r k. k) (λ r k. subst (Has n) (single_one l r k) h)) (λ r k. union_left n (single l) r k)
+    has_it h = within_same (union n (single l)) n (union_within n (single l) n (λ r k. k) (λ r k. subst (Has n) (single_one l r k) h)) (λ r k. union_left n (single l) r k)
 
     at : (u : ℕ) → Within u whole → Has u l → n ≤ u → union n (single l) ≤ u
     at u w h le =

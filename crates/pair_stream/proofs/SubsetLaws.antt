@@ -5,11 +5,10 @@ use Rattle.std.proofs.lemmas.Bool.{cases_eq, cases_lt, cases_Bool, cond-true, co
 use Rattle.std.proofs.lemmas.Nat.{pow_pos}
 use Rattle.dpe_base.specs.declared.TheConstants.{N_MAX}
 use Rattle.dpe_base.specs.Sets.{Has, Within, Meets, IsLeast, IsNextSubset, inter, full}
-use Rattle.dpe_base.proofs.SetLaws.{member-above, disjoint_by_inter, within_by_inter, least_by_zeros}
+use Rattle.dpe_base.proofs.SetLaws.{member-above, disjoint_by_inter, within_by_inter, least_by_zeros, inter_left, inter_right, full_has, full_limit}
 use Rattle.dpe_base.proofs.NextSubset.{within_le}
 use Rattle.dpe_base.proofs.SizeLaws.{some_member, within_span}
 use Rattle.pair_stream.specs.Subsets.{is_within, meets, subsets_after, least, descending}
-use Rattle.pair_stream.proofs.SetMembers.{inter_left, inter_right, full_has, full_below}
 use Rattle.pair_stream.proofs.Lists.{contains_none, contains_head, contains_tail, contains_cases, contains_filter, contains_from_filter, passes_from_filter, contains_range, contains_from_range, pairs_nil, pairs_cons, pairs_filter, pairs_range}
 
 pub is_within_true : (a b : ℕ) → (is_within a b ≡ true) ↔ Within a b
@@ -146,4 +145,4 @@ pub positive : (a : ℕ) → a ≢ 0 → 0 < a
 positive a ne = elim (cases_eq a 0) [ inl e ↦ absurd (ne e) | inr x ↦ omega arith ]
 
 pub within_most : (s n : ℕ) → Within s (full n) → n ≤ N_MAX → Within s (full N_MAX)
-within_most s n w l r h = full_has N_MAX r (omega (arith, full_below n r (w r h)))
+within_most s n w l r h = full_has N_MAX r (omega (arith, full_limit n r (w r h)))
