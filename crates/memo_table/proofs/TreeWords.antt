@@ -30,7 +30,7 @@ module _ (kind : ℕ) (space : TreeSpace) (is : IsTreeSpace space) where
       }
     where
       some : (t : JoinTree) → Trees kind space.query space.pairs t → 1 ≤ size (set_of t)
-      some t m = let c = legal_connected kind space.query t (made_legal kind space.query space.pairs is.pairs t m) in
+      some t m = let c = legal_connected kind (graph_of space.query) t (made_legal kind space.query space.pairs is.pairs t m) in
           let F : size (set_of t) ≡ 0 → ⊥ = λ e. c.some (size_none (set_of t) e) in omega arith
 
       alone : (t : JoinTree) (v : ℕ) → Trees kind space.query space.pairs t → set_of t ≡ single r → HasWord kind space.query t v → leaf_word r ≤ v
