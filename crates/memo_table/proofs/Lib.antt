@@ -9,3 +9,4 @@ mod SeatSteps
 mod Ending
 mod SeatLaws
 mod Leaves
+mod TwoRelations
