@@ -1,0 +1,4 @@
+pub mod RowLaws
+pub mod DpsizeLaw
+pub mod DpsizeSteps
+mod DpsizeVectors
