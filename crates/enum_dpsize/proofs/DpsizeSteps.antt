@@ -133,19 +133,6 @@ left_start_one g i j e l =
     none_too : g.n - 1 ≡ 0
     none_too = omega arith
 
--- ---- the parts that the code reads
-
-pub parts_length : (g : JoinGraph) (parts : List (List ℕ)) → parts ≡ parts_of g → length parts ≡ g.n
-parts_length g parts e = ap length e ∙ length-map-range_with_len (part g) 1 g.n
-
-pub part_read : (g : JoinGraph) (parts : List (List ℕ)) (k : ℕ) (xs : List ℕ) → parts ≡ parts_of g → 1 ≤ k → k ≤ g.n → xs ≡ get_or parts (k - 1) xs → xs ≡ part g k
-part_read g parts k xs e l m h =
-    h ∙ ap (λ ps. get_or ps (k - 1) xs) e ∙ get_or-map-range_with_len (part g) 1 g.n (k - 1) k xs (omega arith) (omega arith)
-
-pub part_connected : (g : JoinGraph) (k : ℕ) (xs : List ℕ) → IsGraph g → xs ≡ part g k → All (Connected g) xs
-part_connected g k xs ok e i d l =
-    ((part_has g ok k (get_or xs i d)).0 (subst (λ ys. Contains ys (get_or xs i d)) e (Contains-get_or xs i d l))).connected
-
 -- ---- what the code of a step needs
 
 pub taken_here : (g : JoinGraph) (s k : ℕ) (xs ys : List ℕ) (i j i' j' : ℕ) (p : Pair) → xs ≡ part g k → ys ≡ part g (s - k) → rows_from g ys (nat_eq k (s - k)) (drop i xs) j ≡ p ∷ rows_from g ys (nat_eq k (s - k)) (drop i' xs) j' → dpsize_left g s k i j ≡ p ∷ dpsize_left g s k i' j'

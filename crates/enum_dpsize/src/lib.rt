@@ -2,7 +2,10 @@
 #![tactic(auto)]
 
 mod dpsize;
+mod dpsva;
 mod pairs;
 mod sizes;
+mod skip_parts;
 
 pub use dpsize::DpSize;
+pub use skip_parts::SkipParts;

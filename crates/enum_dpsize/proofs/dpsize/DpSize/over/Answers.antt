@@ -2,7 +2,8 @@ use Rattle.std.proofs.Common.{◌≡◌, ◌∙◌, ap, sym, arith, refl, length
 use Rattle.pair_stream.specs.Orders.{Ordered, Complete}
 use Rattle.pair_stream.specs.Parts.{part}
 use Rattle.enum_dpsize.proofs.DpsizeLaw.{dpsize_complete, dpsize_ordered}
-use Rattle.enum_dpsize.proofs.DpsizeSteps.{left_start, left_start_one, part_read}
+use Rattle.enum_dpsize.proofs.PartLists.{part_read}
+use Rattle.enum_dpsize.proofs.DpsizeSteps.{left_start, left_start_one}
 use Rattle.enum_dpsize.proofs.dpsize.DpSize.over.Goals as goal
 use Rattle.enum_dpsize.proofs.dpsize.DpSize.over.Goals.{then-n-eq1, else-n-eq1}
 

@@ -2,7 +2,8 @@ use Rattle.std.proofs.Common.{◌≡◌, ◌∙◌, ◌-◌, ap, sym, arith}
 use Rattle.std.proofs.lemmas.Bool.{eqb-true}
 use Rattle.pair_stream.specs.Parts.{part}
 use Rattle.enum_dpsize.specs.Dpsize.{IsDpsizeState, dpsize_left}
-use Rattle.enum_dpsize.proofs.DpsizeSteps.{parts_length, part_read, part_connected, taken_here, over_here, left_end, over_from_empty, step_sizes}
+use Rattle.enum_dpsize.proofs.PartLists.{parts_length, part_read, part_connected}
+use Rattle.enum_dpsize.proofs.DpsizeSteps.{taken_here, over_here, left_end, over_from_empty, step_sizes}
 use Rattle.enum_dpsize.proofs.dpsize.DpSizePairStream.next.Goals as goal
 
 pub part-xs-requires : goal.part-xs-requires
