@@ -1,0 +1,11 @@
+//! The enumerations of pairs by the sizes of their sides: DPsize by a plain scan, and DPsva by skip vectors.
+#![tactic(auto)]
+
+mod dpsize;
+mod dpsva;
+mod pairs;
+mod sizes;
+mod skip_parts;
+
+pub use dpsize::DpSize;
+pub use skip_parts::SkipParts;
