@@ -3,6 +3,8 @@
 
 mod draws;
 mod sample;
+#[cfg(test)]
+mod tests;
 mod values;
 mod workload;
 
