@@ -1,5 +1,5 @@
 -- What the words of a command line say.
-use Rattle.std.specs.Prelude.{◌≡◌, ℕ, ◌^◌, ◌-◌, List, false, if◌then◌else◌, Option, Some, None, Result, Ok, Err, IsSome, codes, string_bytes, map, String, option_map}
+use Rattle.std.specs.Prelude.{◌≡◌, ◌^◌, ◌-◌, List, false, if◌then◌else◌, Option, Some, None, Result, Ok, Err, IsSome, codes, string_bytes, map, String, option_map}
 use Rattle.std.specs.declared.alloc.Global.{Global}
 use Rattle.clap.specs.Words.{Text, first_of, matches_of, takes}
 use Rattle.cost_model.specs.declared.model.ModelKind.TheVariants.{Ops}
