@@ -76,8 +76,9 @@ impl Report {
                 self.text.push_str(entry.as_str())
             }
             Format::Json => {
-                let entry =
-                    planned_value(self.alloc, name, aliases, query, model, tree, pairs, stats)?;
+                let entry = planned_value(
+                    self.alloc, name, aliases, query, model, tree, pairs, stats,
+                )?;
                 self.entries.push(entry)?;
                 Ok(())
             }

@@ -48,7 +48,10 @@ fn write_stats(out: &mut String, stats: Stats) -> Result<(), AllocError>
         probes,
         ..
     } = stats;
-    writeln!(out, "stats {enumerator} buffer {buffer} buffers {buffers} rounds {rounds} probes {probes}")
+    writeln!(
+        out,
+        "stats {enumerator} buffer {buffer} buffers {buffers} rounds {rounds} probes {probes}"
+    )
 }
 
 fn write_plan<M: CostModel>(
