@@ -13,6 +13,7 @@ use Rattle.pair_stream.proofs.PartLaws.{part_has}
 use Rattle.pair_stream.specs.Streams.{is_over}
 use Rattle.enum_dpsize.specs.Dpsize.{IsDpsizeState, NextSizes, pairs_sized, rows_from, start_at, dpsize_left, seq_dpsize}
 use Rattle.enum_dpsize.proofs.RowLaws.{row_begins}
+use Rattle.enum_dpsize.proofs.PartLists.{parts_length, part_read}
 
 abbrev of_size : JoinGraph → ℕ → List Pair
 of_size g s = flat_map (λ k. pairs_sized g k (s - k)) (range_with_len 1 (s / 2))
@@ -132,6 +133,24 @@ left_start_one g i j e l =
 
     none_too : g.n - 1 ≡ 0
     none_too = omega arith
+
+-- ---- the two lists that the code reads
+
+pub first_known : (g : JoinGraph) (parts : List (List ℕ)) (s k : ℕ) → IsDpsizeState g parts s k → (1 ≤ k) × (k ≤ length parts)
+first_known g parts s k f = (f.small, omega (arith, f.fits, parts_length g parts f.made))
+
+pub second_known : (g : JoinGraph) (parts : List (List ℕ)) (s k : ℕ) → IsDpsizeState g parts s k → (1 ≤ s - k) × (s - k ≤ length parts)
+second_known g parts s k f = (omega (arith, f.small, f.half), omega (arith, f.known, parts_length g parts f.made))
+
+pub first_list : (g : JoinGraph) (parts : List (List ℕ)) (s k : ℕ) (xs : List ℕ) → IsDpsizeState g parts s k → xs ≡ get_or parts (k - 1) xs → xs ≡ part g k
+first_list g parts s k xs f h = part_read g parts k xs f.made f.small f.fits h
+
+pub second_list : (g : JoinGraph) (parts : List (List ℕ)) (s k : ℕ) (ys : List ℕ) → IsDpsizeState g parts s k → ys ≡ get_or parts (s - k - 1) ys → ys ≡ part g (s - k)
+second_list g parts s k ys f h =
+    part_read g parts (s - k) ys f.made (omega (arith, f.small, f.half)) (omega (arith, f.known)) h
+
+pub one_list : (g : JoinGraph) (parts : List (List ℕ)) (s k : ℕ) (xs ys : List ℕ) → xs ≡ part g k → ys ≡ part g (s - k) → nat_eq k (s - k) ≡ true → xs ≡ ys
+one_list g parts s k xs ys ex ey t = ex ∙ ap (part g) (eqb-true k (s - k) t) ∙ sym ey
 
 -- ---- what the code of a step needs
 

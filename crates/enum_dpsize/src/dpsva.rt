@@ -112,3 +112,73 @@ fn next_in_rows<L: Ledger>(
     }
     None
 }
+
+impl<'a> DpSva<'a> {
+    /// The stream of all pairs of the graph whose parts these are. It takes no memory.
+    pub fn over(graph: &Graph, parts: &'a SkipParts) -> DpSva<'a>
+        requires { parts.now ≡ parts_of graph.now }
+        ensures list { result.pairs ≡ seq_dpsize graph.now }
+        ensures complete { Complete graph.now result.pairs }
+        ensures ordered { Ordered result.pairs }
+        ensures probes { ⟦<DpSva<'a> as PairStream>⟧.probed result ≡ 0 }
+        ensures total { ⟦<DpSva<'a> as PairStream>⟧.total result ≡ dpsva_probes graph.now }
+    {
+        let n = graph.n();
+        DpSva {
+            graph: *graph,
+            parts,
+            size: 2,
+            small: 1,
+            row: if n == 1 { parts.list(1).len() } else { 0 },
+            next: 1,
+            probes: 0,
+        }
+    }
+}
+
+impl<'a> PairStream for DpSva<'a> {
+    ghost use Rattle.enum_dpsize.specs.Dpsva.{has_ended, ended_stream};
+
+    ghost left = { λ s. s.pairs };
+
+    ghost ended = { λ s. has_ended s };
+
+    ghost probed = { λ s. s.probed };
+
+    ghost total = { λ s. s.total };
+
+    fn next<L: Ledger>(&mut self, steps: &mut Steps<L>) -> Option<Pair> {
+        'sizes: loop {
+            let xs = self.parts.list(self.small);
+            let ys = self.parts.skips(self.size - self.small);
+            let same = self.small == self.size - self.small;
+            if let Some(p) = next_in_rows(
+                &self.graph,
+                xs,
+                ys,
+                same,
+                &mut self.row,
+                &mut self.next,
+                &mut self.probes,
+                steps,
+            ) {
+                return Some(p);
+            }
+            match next_sizes(self.size, self.small, self.graph.n() as u32) {
+                None => return None,
+                Some((size, small)) => {
+                    self.size = size;
+                    self.small = small;
+                    self.row = 0;
+                    self.next = start_at(small == size - small, 0);
+                }
+            }
+        }
+    }
+
+    fn probes(&self) -> u64 {
+        self.probes
+    }
+
+    ghost at_end = { λ s t. ended_stream s t };
+}

@@ -8,4 +8,5 @@ mod sizes;
 mod skip_parts;
 
 pub use dpsize::DpSize;
+pub use dpsva::DpSva;
 pub use skip_parts::SkipParts;

@@ -1,19 +1,19 @@
 -- What the best word of a set says of the root of its plan.
-use Rattle.std.proofs.Common.{◌≡◌, ◌≢◌, ℕ, ◌+◌, ◌*◌, ◌/◌, ◌%◌, ◌^◌, ◌≤◌, ◌<◌, arith, refl, sym, ◌∙◌, ap, subst, inl, inr, List, slice_index}
+use Rattle.std.proofs.Common.{◌≡◌, ◌≢◌, ℕ, ◌+◌, ◌*◌, ◌≤◌, ◌<◌, arith, refl, sym, ◌∙◌, ap, subst, inl, inr}
 use Rattle.std.proofs.lemmas.Bool.{cases_eq}
-use Rattle.dpe_base.specs.declared.TheConstants.{COST_LIMIT, SPAN}
+use Rattle.dpe_base.specs.declared.TheConstants.{SPAN, COST_LIMIT}
 use Rattle.dpe_base.specs.Queries.{JoinQuery, relations, IsQuery}
-use Rattle.dpe_base.specs.Sets.{Has, Within, Disjoint, IsLeast, union, minus, single, full, size}
+use Rattle.dpe_base.specs.Sets.{Within, Disjoint, IsLeast, union, minus, single, full, size}
 use Rattle.dpe_base.proofs.SetLaws.{sets, same_set, member-same}
 use Rattle.dpe_base.proofs.SizeLaws.{size-union, size-single, size-empty, size_one, size_none, union_add}
 use Rattle.join_graph.specs.Graphs.{Connected, graph_of}
 use Rattle.cost_model.specs.Words.{word_op, word_left}
 use Rattle.join_tree.specs.Trees.{JoinTree, leaf, join, set_of, cost, root_word, Legal, HasWord, Best, Plan}
 use Rattle.plan_report.specs.declared.plan.Root.{Root}
-use Rattle.plan_report.specs.Words.{HasBestWords, IsSide, IsRoot}
+use Rattle.plan_report.specs.Words.{IsSide, IsRoot}
 use Rattle.join_tree.proofs.Substructure.{operators_few}
 use Rattle.join_tree.proofs.TreeLaws.{legal_connected}
-use Rattle.join_tree.proofs.BestLaws.{legal_small, join_word, plan_join}
+use Rattle.join_tree.proofs.BestLaws.{best_below, legal_small, join_word, plan_join}
 
 -- the least relation of a set of one is the set
 pub least_alone : (s r : ℕ) → size s ≡ 1 → IsLeast s r → s ≡ single r
@@ -33,18 +33,21 @@ size_sides kind q op l r m =
     not_none : (s : ℕ) → s ≢ 0 → 1 ≤ size s
     not_none s ne = elim (cases_eq (size s) 0) [ inl e ↦ absurd (ne (size_none s e)) | inr more ↦ omega arith ]
 
--- a relation is its own plan
-plan_leaf : (kind : ℕ) (q : JoinQuery) (r w : ℕ) → r < relations q → Best kind q (single r) w → Plan kind q (single r) (leaf r)
-plan_leaf kind q r w known best =
+-- the best word of a relation is its leaf's
+pub best_leaf : (kind : ℕ) (q : JoinQuery) (r : ℕ) → r < relations q → Best kind q (single r) (3 * SPAN + single r)
+best_leaf kind q r known =
     record {
-      legal = known;
-      over = refl;
-      best = subst (Best kind q (single r)) (only best.some.0 best.some.1 best.some.2 best.some.3) best;
+      some = (leaf r, known, refl, record { below = omega arith; is = refl });
+      least = λ t v m over has. rw (← only t v m over has) (omega arith);
     }
   where
-    only : (t : JoinTree) → Legal kind (graph_of q) t → set_of t ≡ single r → HasWord kind q t w → w ≡ 3 * SPAN + single r
-    only (leaf k) m over has = omega (arith, has.is, over)
-    only (join op x y) m over has = absurd (omega (arith, size_sides kind q op x y m, ap size over, size-single r))
+    only : (t : JoinTree) (v : ℕ) → Legal kind (graph_of q) t → set_of t ≡ single r → HasWord kind q t v → 3 * SPAN + single r ≡ v
+    only (leaf k) v m over has = omega (arith, has.is, over)
+    only (join op x y) v m over has = absurd (omega (arith, size_sides kind q op x y m, ap size over, size-single r))
+
+-- a relation is its own plan
+plan_leaf : (kind : ℕ) (q : JoinQuery) (r : ℕ) → r < relations q → Plan kind q (single r) (leaf r)
+plan_leaf kind q r known = record { legal = known; over = refl; best = best_leaf kind q r known }
 
 -- the root of a best tree over s: its operator and its left set are read from the word
 record BestRoot (kind : ℕ) (q : JoinQuery) (s w : ℕ) : Type 0 where
@@ -121,10 +124,13 @@ is_root kind q s w root ok many best is_op is_left is_right =
       plan = λ x y px py. plan_of_root kind q s w root.op x y ok b is_op (rw is_left at px) (rw is_right at py);
     }
 
-pub plan_alone : (kind : ℕ) (q : JoinQuery) (words : List ℕ) (s r : ℕ) → s ≡ single r → Connected (graph_of q) s → HasBestWords kind q words s → Plan kind q s (leaf r)
-plan_alone kind q words s r e c best =
-    subst (λ u. Plan kind q u (leaf r)) (sym e)
-    (plan_leaf kind q r (slice_index words s) (known (relations q) s r e c.within) (subst (λ u. Best kind q u (slice_index words s)) e (best s c (λ k h. h))))
+pub plan_alone : (kind : ℕ) (q : JoinQuery) (s r : ℕ) → s ≡ single r → Connected (graph_of q) s → Plan kind q s (leaf r)
+plan_alone kind q s r e c = subst (λ u. Plan kind q u (leaf r)) (sym e) (plan_leaf kind q r (known (relations q) s r e c.within))
   where
     known : (n s r : ℕ) → s ≡ single r → Within s (full n) → r < n
     known n s r e w = grind (arith, sets, member-same e r)
+
+-- a plan has a word
+pub plan_word : (kind : ℕ) (q : JoinQuery) (s : ℕ) (t : JoinTree) → IsQuery q → Plan kind q s t → cost kind q t < COST_LIMIT
+plan_word kind q s (leaf r) ok plan = omega arith
+plan_word kind q s (join op l r) ok plan = best_below kind q (join op l r) ok plan.legal plan.best.0

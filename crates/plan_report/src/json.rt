@@ -1,21 +1,21 @@
 //! The JSON of a planned query.
 ghost use Rattle.std.specs.Prelude.{◌≡◌, ◌<◌, ◌++◌, length, IfOk, codes, false};
-ghost use Rattle.serde_json.specs.Data.{member, no_members};
 ghost use Rattle.serde_json.specs.View.{view, items_of};
 ghost use Rattle.serde_json.specs.Written.{compact_text, has_float};
 ghost use Rattle.dpe_base.specs.Queries.{relations};
 ghost use Rattle.join_graph.specs.Graphs.{graph_of};
 ghost use Rattle.join_tree.specs.Trees.{Legal, cost};
 ghost use Rattle.join_tree.specs.TreeOf.{tree_of};
-ghost use Rattle.plan_report.specs.Json.{entry_data, scan_data, join_data, stats_data, plan_data, planned_data, report_data, values_of};
+ghost use Rattle.plan_report.specs.Json.{accepted_data, scan_data, join_data, stats_data, stats_member, plan_data, refused_data, report_data, values_of};
 ghost use Rattle.plan_report.specs.Texts.{newline};
 
 use crate::entry::Stats;
 use crate::names::{enumerator_name, operator_name};
-use crate::numbers::{cost_of, rows_of, rows_of_all};
+use crate::numbers::{cost_of, rows_of};
 use cost_model::CostModel;
 use dpe_base::{COST_LIMIT, Name, Query};
 use join_tree::Tree;
+use query_json::{QueryRefusal, write_refusal};
 use serde_json::{Value, json};
 use std::alloc::{AllocError, Global};
 
@@ -38,7 +38,8 @@ fn join_value(
     json!(in alloc; {"cost": cost, "left": left, "op": operator, "right": right, "rows": rows})
 }
 
-fn plan_value<M: CostModel>(
+/// A tree as nested objects.
+pub fn plan_value<M: CostModel>(
     alloc: Global,
     aliases: &[Name],
     query: &Query,
@@ -76,62 +77,38 @@ fn stats_value(alloc: Global, stats: Stats) -> Result<Value, AllocError>
     json!(in alloc; {"buffer": buffer, "buffers": buffers, "enumerator": enumerator, "probes": probes, "rounds": rounds})
 }
 
-// The entry without statistics.
-fn plain_value(
-    alloc: Global,
-    name: &str,
-    cost: u64,
-    rows: u64,
-    pairs: u64,
-    plan: Value,
-) -> Result<Value, AllocError>
-    ensures { IfOk result (λ v. view v ≡ entry_data name.now cost rows pairs (view plan) no_members) }
-{
-    json!(in alloc; {"cost": cost, "name": name, "pairs": pairs, "plan": plan, "rows": rows})
-}
-
-// The entry with statistics.
-fn counted_value(
-    alloc: Global,
-    name: &str,
-    cost: u64,
-    rows: u64,
-    pairs: u64,
-    plan: Value,
-    stats: Value,
-) -> Result<Value, AllocError>
-    ensures { IfOk result (λ v. view v ≡ entry_data name.now cost rows pairs (view plan) (member (codes "stats") (view stats) no_members)) }
-{
-    json!(in alloc; {"cost": cost, "name": name, "pairs": pairs, "plan": plan, "rows": rows, "stats": stats})
-}
-
 /// The entry of a planned query.
-pub fn planned_value<M: CostModel>(
+pub fn planned_value(
     alloc: Global,
     name: &Name,
-    aliases: &[Name],
-    query: &Query,
-    model: &M,
-    tree: &Tree,
+    cost: u64,
+    rows: u64,
     pairs: u64,
+    plan: Value,
     stats: Option<Stats>,
 ) -> Result<Value, AllocError>
-    requires named { length aliases.now ≡ relations query.now }
-    requires legal { Legal M.KIND (graph_of query.now) (tree_of tree.now) }
-    requires word { cost M.KIND query.now (tree_of tree.now) < COST_LIMIT }
-    ensures { IfOk result (λ v. view v
-        ≡ planned_data (record { name = name.now; aliases = aliases.now; kind = M.KIND; query = query.now; tree = tree_of tree.now; pairs = pairs; stats = stats })) }
+    ensures { IfOk result (λ v. view v ≡ accepted_data name.now cost rows pairs (view plan) (stats_member stats)) }
 {
-    let cost = cost_of(query, model, tree);
-    let rows = rows_of_all(query);
-    let plan = plan_value(alloc, aliases, query, model, tree)?;
+    let name = name.text();
     match stats {
         Some(stats) => {
             let stats = stats_value(alloc, stats)?;
-            counted_value(alloc, name.text(), cost, rows, pairs, plan, stats)
+            json!(in alloc; {"cost": cost, "name": name, "pairs": pairs, "plan": plan, "rows": rows, "stats": stats})
         }
-        None => plain_value(alloc, name.text(), cost, rows, pairs, plan),
+        None => {
+            json!(in alloc; {"cost": cost, "name": name, "pairs": pairs, "plan": plan, "rows": rows})
+        }
     }
+}
+
+/// The entry of a refused query.
+pub fn refused_value(alloc: Global, name: &Name, why: &QueryRefusal) -> Result<Value, AllocError>
+    ensures { IfOk result (λ v. view v ≡ refused_data name.now why.now) }
+{
+    let mut text = String::new(alloc);
+    write_refusal(&mut text, why)?;
+    let (code, name, refusal) = (why.code(), name.text(), text.as_str());
+    json!(in alloc; {"code": code, "name": name, "refusal": refusal})
 }
 
 /// The entries of a report as one object.

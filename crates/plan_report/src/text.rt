@@ -6,15 +6,31 @@ ghost use Rattle.join_graph.specs.Graphs.{graph_of};
 ghost use Rattle.card_scaled.specs.Cards.{rows};
 ghost use Rattle.join_tree.specs.Trees.{Legal, cost, set_of};
 ghost use Rattle.join_tree.specs.TreeOf.{tree_of};
-ghost use Rattle.plan_report.specs.Texts.{indent, query_line, numbers_line, scan_line, join_line, stats_line, stats_text, plan_text, planned_text, height};
+ghost use Rattle.plan_report.specs.Texts.{indent, query_line, numbers_line, scan_line, join_line, stats_text, plan_text, refused_text, height};
 
 use crate::entry::Stats;
 use crate::names::{enumerator_name, operator_name};
-use crate::numbers::{cost_of, rows_of, rows_of_all};
+use crate::numbers::{cost_of, rows_of};
 use cost_model::CostModel;
 use dpe_base::{COST_LIMIT, Name, Query};
 use join_tree::Tree;
+use query_json::{QueryRefusal, write_refusal};
 use std::alloc::AllocError;
+
+/// Appends the line of the query and the line of its numbers.
+pub fn write_head(
+    out: &mut String,
+    name: &Name,
+    cost: u64,
+    rows: u64,
+    pairs: u64,
+) -> Result<(), AllocError>
+    ensures { OnOk result (string_bytes out.new ≡ string_bytes out.old ++ (query_line name.now ++ numbers_line cost rows pairs)) }
+{
+    let name = name.text();
+    writeln!(out, "query {name}")?;
+    writeln!(out, "cost {cost} rows {rows} pairs {pairs}")
+}
 
 fn write_indent(out: &mut String, depth: u32) -> Result<(), AllocError>
     ensures { OnOk result (string_bytes out.new ≡ string_bytes out.old ++ indent depth) }
@@ -37,21 +53,8 @@ fn write_join(out: &mut String, operator: &str, rows: u64, cost: u64) -> Result<
     writeln!(out, "{operator} rows {rows} cost {cost}")
 }
 
-fn write_stats(out: &mut String, stats: Stats) -> Result<(), AllocError>
-    ensures { OnOk result (string_bytes out.new ≡ string_bytes out.old ++ stats_line stats) }
-{
-    let enumerator = enumerator_name(stats.kind);
-    let Stats {
-        buffer,
-        buffers,
-        rounds,
-        probes,
-        ..
-    } = stats;
-    writeln!(out, "stats {enumerator} buffer {buffer} buffers {buffers} rounds {rounds} probes {probes}")
-}
-
-fn write_plan<M: CostModel>(
+/// Appends the lines of a tree, with the root at this depth.
+pub fn write_plan<M: CostModel>(
     out: &mut String,
     aliases: &[Name],
     query: &Query,
@@ -78,32 +81,34 @@ fn write_plan<M: CostModel>(
     }
 }
 
-/// Appends the entry of a planned query.
-pub fn write_planned<M: CostModel>(
-    out: &mut String,
-    name: &Name,
-    aliases: &[Name],
-    query: &Query,
-    model: &M,
-    tree: &Tree,
-    pairs: u64,
-    stats: Option<Stats>,
-) -> Result<(), AllocError>
-    requires named { length aliases.now ≡ relations query.now }
-    requires legal { Legal M.KIND (graph_of query.now) (tree_of tree.now) }
-    requires word { cost M.KIND query.now (tree_of tree.now) < COST_LIMIT }
-    ensures { OnOk result (string_bytes out.new ≡ string_bytes out.old
-        ++ planned_text (record { name = name.now; aliases = aliases.now; kind = M.KIND; query = query.now; tree = tree_of tree.now; pairs = pairs; stats = stats })) }
+/// Appends the line of the statistics, where they are given.
+pub fn write_stats(out: &mut String, stats: Option<Stats>) -> Result<(), AllocError>
+    ensures { OnOk result (string_bytes out.new ≡ string_bytes out.old ++ stats_text stats) }
 {
-    let _n = query.n();
-    let name = name.text();
+    let Some(stats) = stats else {
+        return Ok(());
+    };
+    let enumerator = enumerator_name(stats.kind);
+    let Stats {
+        buffer,
+        buffers,
+        rounds,
+        probes,
+        ..
+    } = stats;
+    writeln!(
+        out,
+        "stats {enumerator} buffer {buffer} buffers {buffers} rounds {rounds} probes {probes}"
+    )
+}
+
+/// Appends the entry of a refused query.
+pub fn write_refused(out: &mut String, name: &Name, why: &QueryRefusal) -> Result<(), AllocError>
+    ensures { OnOk result (string_bytes out.new ≡ string_bytes out.old ++ refused_text name.now why.now) }
+{
+    let (code, name) = (why.code(), name.text());
     writeln!(out, "query {name}")?;
-    let cost = cost_of(query, model, tree);
-    let rows = rows_of_all(query);
-    writeln!(out, "cost {cost} rows {rows} pairs {pairs}")?;
-    write_plan(out, aliases, query, model, 0, tree)?;
-    match stats {
-        Some(stats) => write_stats(out, stats),
-        None => Ok(()),
-    }
+    write!(out, "refused {code}: ")?;
+    write_refusal(out, why)?;
+    out.push('\n')
 }
