@@ -1,5 +1,5 @@
 -- Which bounds a list has.
-use Rattle.std.proofs.Common.{◌≡◌, ℕ, zero, suc, ◌+◌, ◌<◌, ◌⊎◌, List, [], ◌∷◌, ◌++◌, Contains, length, get_or, refl, arith, inl, inr, ⊎_elim}
+use Rattle.std.proofs.Common.{◌≡◌, ℕ, zero, suc, ◌<◌, ◌⊎◌, List, [], ◌∷◌, Contains, get_or, refl, arith, inl, inr, ⊎_elim}
 use Rattle.std.proofs.lemmas.List.Elements.{Contains-append_right, Contains-append_cases}
 
 pub first_stands : {A : Type 0} (x : A) (xs : List A) → Contains (x ∷ xs) x

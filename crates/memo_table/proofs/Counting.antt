@@ -1,5 +1,5 @@
 -- Sums over the views, and what each step does to the counter and the sums.
-use Rattle.std.proofs.Common.{◌≡◌, ℕ, zero, suc, ◌+◌, ◌<◌, ◌≤◌, ◌≢◌, ◌==◌, Bool, true, cond, List, [], ◌∷◌, ◌++◌, All, length, set, get_or, sum_by, sym, refl, ap, ◌∙◌, subst, arith, eq-eqb, length-append}
+use Rattle.std.proofs.Common.{◌≡◌, ℕ, zero, suc, ◌+◌, ◌<◌, ◌≤◌, ◌≢◌, ◌==◌, Bool, cond, List, [], ◌∷◌, ◌++◌, All, length, set, get_or, sum_by, sym, refl, ap, ◌∙◌, subst, arith, eq-eqb, length-append}
 use mathlib.Core.Option.{some, some-injective, some-ne-none}
 use lib.ListN.{get_elem?}
 use Rattle.std.proofs.lemmas.Bool.Decides.{nat_tests}

@@ -1,5 +1,5 @@
 -- What a step of one seat leaves of the rule, whatever word it is on.
-use Rattle.std.proofs.Common.{◌≡◌, ℕ, ◌+◌, ◌<◌, ◌≤◌, ◌≢◌, ◌⊎◌, List, Contains, length, set, get_or, sym, ap, ◌∙◌, subst, arith, inl, inr, ⊎_elim, le_refl}
+use Rattle.std.proofs.Common.{◌≡◌, ℕ, ◌≤◌, ◌≢◌, ◌⊎◌, List, Contains, set, get_or, sym, ap, ◌∙◌, subst, arith, inl, inr, ⊎_elim, le_refl}
 use mathlib.Core.Option.{some, some-injective}
 use mathlib.Core.Logic.{dite}
 use native.Mathlib.Decide.{ℕ_discrete}

@@ -1,5 +1,5 @@
 -- The words of the relations alone are offered, one after the other.
-use Rattle.std.proofs.Common.{◌≡◌, ℕ, ◌+◌, ◌<◌, ◌≤◌, ◌≢◌, ◌↔◌, Bool, cond, List, [], Contains, sym, refl, ap, ◌∙◌, subst, arith, ⊎_elim, ne_eqb}
+use Rattle.std.proofs.Common.{◌≡◌, ℕ, ◌+◌, ◌<◌, ◌≢◌, Bool, cond, List, [], Contains, sym, refl, ap, ◌∙◌, subst, arith, ⊎_elim, ne_eqb}
 use mathlib.Core.Logic.{dite}
 use native.Mathlib.Decide.{ℕ_discrete}
 use Rattle.std.proofs.lemmas.Nat.{pow_below, pow_pos}

@@ -1,5 +1,5 @@
 -- What a seat keeps over a step.
-use Rattle.std.proofs.Common.{◌≡◌, ℕ, ◌^◌, ◌<◌, ◌≤◌, ◌≢◌, ◌⊎◌, ◌==◌, Bool, cond, true, false, [], ◌++◌, Contains, sym, refl, ap, ◌∙◌, subst, ⊎_elim, eq-eqb, ne_eqb}
+use Rattle.std.proofs.Common.{◌≡◌, ℕ, ◌≤◌, ◌≢◌, ◌⊎◌, ◌==◌, Bool, cond, true, false, [], ◌++◌, Contains, sym, refl, ap, ◌∙◌, subst, ⊎_elim, eq-eqb, ne_eqb}
 use mathlib.Core.Logic.{dite}
 use native.Mathlib.Decide.{ℕ_discrete}
 use Rattle.std.proofs.lemmas.List.Elements.{Contains-append_cases}

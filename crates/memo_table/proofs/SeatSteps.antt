@@ -1,5 +1,5 @@
 -- The steps on seats keep the rule: a split, and a join.
-use Rattle.std.proofs.Common.{◌≡◌, ℕ, ◌+◌, ◌≤◌, ◌≢◌, List, [], ◌∷◌, ◌++◌, Contains, set, sym, ap, ◌∙◌, subst, arith, inl, inr, ⊎_elim, le_refl}
+use Rattle.std.proofs.Common.{◌≡◌, ℕ, ◌≤◌, ◌≢◌, List, [], ◌∷◌, Contains, set, sym, ap, ◌∙◌, subst, arith, inl, inr, ⊎_elim, le_refl}
 use mathlib.Core.Option.{some, some-injective}
 use mathlib.Core.Logic.{dite}
 use native.Mathlib.Decide.{ℕ_discrete}
@@ -10,7 +10,7 @@ use Rattle.atomic_table.proofs.Lists.{at_set, at_snoc, set_here, set_else, at_lo
 use Rattle.memo_table.specs.declared.view.View.{View}
 use Rattle.memo_table.specs.declared.view.TreeSpace.{TreeSpace}
 use Rattle.memo_table.specs.Views.{spent_view, kept_part, given_part, joined_view}
-use Rattle.memo_table.specs.Rule.{memo_word, counter, IsHeld, IsBound, IsLive, Kept}
+use Rattle.memo_table.specs.Rule.{memo_word, counter, IsBound, IsLive, Kept}
 use Rattle.memo_table.proofs.Bounds.{none_stands}
 use Rattle.memo_table.proofs.Counting.{at_inside, splitting, joining}
 use Rattle.memo_table.proofs.Holding.{Fits, live_of, each_set, held_set}

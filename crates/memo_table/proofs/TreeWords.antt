@@ -1,10 +1,10 @@
 -- The words of the trees that the pairs of a list make.
-use Rattle.std.proofs.Common.{◌≡◌, ℕ, ◌+◌, ◌*◌, ◌<◌, ◌≤◌, arith, refl, ap}
-use Rattle.dpe_base.specs.declared.TheConstants.{EMPTY, SPAN}
+use Rattle.std.proofs.Common.{◌≡◌, ℕ, ◌<◌, ◌≤◌, arith, refl, ap}
+use Rattle.dpe_base.specs.declared.TheConstants.{EMPTY}
 use Rattle.dpe_base.specs.Queries.{relations}
 use Rattle.dpe_base.specs.Sets.{single, size}
 use Rattle.dpe_base.proofs.SizeLaws.{size-union, size-single, size_none}
-use Rattle.join_graph.specs.Graphs.{graph_of, Connected}
+use Rattle.join_graph.specs.Graphs.{graph_of}
 use Rattle.join_tree.specs.Trees.{JoinTree, leaf, join, set_of, Trees, HasWord, Made, Least}
 use Rattle.join_tree.proofs.BestLaws.{legal_word}
 use Rattle.join_tree.proofs.TreeLaws.{made_legal, legal_connected}

@@ -1,8 +1,6 @@
 -- A query of two joined relations, and the words of its two hash joins.
-use Rattle.std.proofs.Common.{◌≡◌, ℕ, ◌<◌, ◌≤◌, List, [], ◌∷◌, slice_index, Contains, refl, sym, subst, arith, inl, inr}
+use Rattle.std.proofs.Common.{◌≡◌, ℕ, List, [], ◌∷◌, slice_index, Contains, refl, sym, subst, arith, inl, inr}
 use Rattle.std.specs.Int.Count.{count_leading_zeros}
-use Rattle.dpe_base.specs.declared.query.Rel.{Rel}
-use Rattle.dpe_base.specs.declared.query.Pred.{Pred}
 use Rattle.dpe_base.specs.declared.pair.Pair.{Pair}
 use Rattle.dpe_base.specs.Digits.{digits}
 use Rattle.dpe_base.specs.Queries.{JoinQuery, relations}

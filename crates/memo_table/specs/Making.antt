@@ -2,7 +2,7 @@
 use Rattle.std.specs.Prelude.{◌≡◌, ℕ, ◌+◌, ◌*◌, ◌^◌, ◌<◌, ◌↔◌, List, slice_set, replicate, Contains}
 use Rattle.dpe_base.specs.declared.TheConstants.{EMPTY, SPAN}
 use Rattle.dpe_base.specs.declared.pair.Pair.{Pair}
-use Rattle.dpe_base.specs.Queries.{JoinQuery, relations}
+use Rattle.dpe_base.specs.Queries.{JoinQuery}
 use Rattle.dpe_base.specs.Sets.{single}
 use Rattle.memo_table.specs.declared.view.View.{View}
 use Rattle.memo_table.specs.declared.view.TreeSpace.{TreeSpace}

@@ -5,8 +5,8 @@ ghost use Rattle.memo_table.specs.Finishing.{IsLeastBound};
 ghost use Rattle.memo_table.specs.Seats.{IsSeatOf, BoundsAreMade};
 ghost use Rattle.memo_table.specs.Views.{EachOnceBelow};
 
-use crate::memo::Memo;
 use crate::WEIGHT;
+use crate::memo::Memo;
 use crate::seat::MemoSeat;
 use cost_model::CostModel;
 use std::marker::Model;
@@ -34,6 +34,7 @@ impl Words {
         self.row.as_slice()
     }
 
+    /// How many numbers the seats drew.
     pub fn drawn(&self) -> u64
         ensures { result ≡ self.now.drawn }
     {

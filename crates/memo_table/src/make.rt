@@ -49,9 +49,10 @@ impl<M: CostModel> Memo<M> {
         ensures seat { IfOk result (λ r. IsSeatOf r.0 r.1) }
         ensures view { IfOk result (λ r. r.1.view ≡ opening_view key.now.me.0) }
     {
-        let row = Vec::with_capacity(alloc, 1usize << n)?;
-        let words = opening_words(alloc, n)?;
-        let (table, seat) = Table::of_words(alloc, words.as_slice(), key)?;
+        // what the words stood in has room for those at the end
+        let mut row = opening_words(alloc, n)?;
+        let (table, seat) = Table::of_words(alloc, row.as_slice(), key)?;
+        row.clear();
         let memo = Memo { table, row };
         let seat = MemoSeat {
             seat,
@@ -72,8 +73,8 @@ impl<M: CostModel> Memo<M> {
         }
     }
 
-    /// A memo of the query and of the list of the pairs that the stream has left, and its first seat. The stream is
-    /// only named. It takes all memory that `finish` needs.
+    /// A memo of the query and of the pairs that the stream has left, and its first seat. The stream is only named.
+    /// The word of each relation alone is in place. It takes all memory that `finish` needs.
     pub fn make<P: PairStream>(
         alloc: Global,
         query: &Query,

@@ -6,8 +6,8 @@ ghost use Rattle.join_tree.specs.Trees.{Made};
 ghost use Rattle.memo_table.specs.Seats.{IsSeatOf, BoundsAreMade};
 ghost use Rattle.memo_table.specs.Views.{EachOnceBelow, with_bound, with_offer, with_ticket, with_floor};
 
-use crate::rule::{Key, MemoRule};
 use crate::WEIGHT;
+use crate::rule::{Key, MemoRule};
 use crate::seat::MemoSeat;
 use crate::steps::{find_counter, find_word, lower_word, take_ticket};
 use crate::view::View;

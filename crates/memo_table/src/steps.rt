@@ -43,10 +43,7 @@ pub(crate) fn lower_word<M: CostModel>(
 }
 
 // The counter rises by 1. It answers what it was.
-pub(crate) fn take_ticket<M: CostModel>(
-    words: &SharedWords<M>,
-    seat: &mut Seat<(), View>,
-) -> u64
+pub(crate) fn take_ticket<M: CostModel>(words: &SharedWords<M>, seat: &mut Seat<(), View>) -> u64
     requires table { seat.old.table_id ≡ words.now.table_id }
     requires place { 0 < words.now.table_id.words }
     requires kept { Allows (Kept M.KIND words.now.key.me.0) words.now.table_id.slots seat.old.id seat.old.me 0 (λ n. (n + 1) % 2 ^ 64) (draw_tells (step words.now.table_id.slots 0 1 0 none) seat.old.me) }
@@ -57,10 +54,7 @@ pub(crate) fn take_ticket<M: CostModel>(
 }
 
 // Finds the counter.
-pub(crate) fn find_counter<M: CostModel>(
-    words: &SharedWords<M>,
-    seat: &mut Seat<(), View>,
-) -> u64
+pub(crate) fn find_counter<M: CostModel>(words: &SharedWords<M>, seat: &mut Seat<(), View>) -> u64
     requires table { seat.old.table_id ≡ words.now.table_id }
     requires place { 0 < words.now.table_id.words }
     requires kept { Allows (Kept M.KIND words.now.key.me.0) words.now.table_id.slots seat.old.id seat.old.me 0 (λ n. n) (look_tells (step words.now.table_id.slots 0 0 0 none) seat.old.me) }

@@ -53,7 +53,10 @@ fn a_greater_word_lowers_nothing(rt: HostRuntime) -> Result<(), Fail> {
     let drawn = memo.drawn(&mut seat);
     assert_eq!(rt; drawn, 2);
     let words = memo.finish(seat);
-    assert_eq!(rt; words.row(), [u64::MAX, 196609, 196610, 340787201].as_slice());
+    assert_eq!(rt;
+        words.row(),
+        [u64::MAX, 196609, 196610, 340787201].as_slice()
+    );
     assert_eq!(rt; words.drawn(), 2);
     Ok(())
 }

@@ -1,7 +1,5 @@
-use Rattle.std.proofs.Common.{◌≡◌, ℕ, Contains, List, inr, sym, subst, ap, ◌∙◌}
-use Rattle.dpe_base.specs.declared.pair.Pair.{Pair}
-use Rattle.dpe_base.specs.Queries.{JoinQuery}
-use Rattle.join_graph.specs.Graphs.{JoinGraph, Pairs, pair_of, graph_of}
+use Rattle.std.proofs.Common.{◌≡◌, Contains, inr, sym, subst, ap, ◌∙◌}
+use Rattle.join_graph.specs.Graphs.{JoinGraph, Pairs, graph_of}
 use Rattle.memo_table.specs.declared.view.View.{View}
 use Rattle.memo_table.proofs.Bounds.{first_stands}
 use Rattle.memo_table.proofs.TwoRelations.{two_relations, is_two, both_within, pair_listed, made_at, first_left, second_left}

@@ -1,4 +1,4 @@
-use Rattle.std.proofs.Common.{◌≡◌, subst}
+use Rattle.std.proofs.Common.{subst}
 use Rattle.join_graph.specs.Graphs.{JoinGraph, Pairs}
 use Rattle.memo_table.proofs.tests.two_threads_draw_each_number_once.Goals as goal
 

@@ -1,4 +1,4 @@
-use Rattle.std.proofs.Common.{rules, refl, ◌∙◌}
+use Rattle.std.proofs.Common.{refl, ◌∙◌}
 use Rattle.memo_table.proofs.CounterSteps.{looks}
 use Rattle.memo_table.proofs.SeatLaws.{seated}
 use Rattle.memo_table.proofs.memo.Memo.drawn.Goals as goal

@@ -1,4 +1,4 @@
-use Rattle.std.proofs.Common.{rules, arith, ◌≡◌, ◌<◌, ◌+◌, ◌^◌, ℕ, length, subst, ap, ◌∙◌, get_or}
+use Rattle.std.proofs.Common.{rules, arith, ◌≡◌, ◌<◌, ◌^◌, ℕ, length, subst, ap, ◌∙◌, get_or}
 use Rattle.std.specs.Slots.{slots_items}
 use Rattle.dpe_base.specs.Queries.{relations}
 use Rattle.memo_table.specs.declared.TheConstants.{WEIGHT}

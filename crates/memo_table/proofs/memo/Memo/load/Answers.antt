@@ -1,4 +1,4 @@
-use Rattle.std.proofs.Common.{rules, arith, ◌≡◌, ◌+◌, Contains, refl, ◌∙◌}
+use Rattle.std.proofs.Common.{rules, arith, ◌≡◌, Contains, refl, ◌∙◌}
 use Rattle.dpe_base.proofs.SizeLaws.{full_below}
 use Rattle.memo_table.proofs.WordSteps.{loads}
 use Rattle.memo_table.proofs.SeatLaws.{seated, made_with_bound}
@@ -25,7 +25,7 @@ invariant_of-seat g c =
     let told = c.find_word.ensures.told in
     let found = told.1 c.args.s c.place_of.ensures in
     seated _ _ _ _ c.seat.invariant c.find_word.ensures.table (told.0 ∙ c.seat.invariant.no_slot) found.view refl c.seat.invariant.weight
-    (made_with_bound _ c.seat.inside.seat.me.0 _ _ c.seat.invariant.bounds b.some b.within found.made)
+    (made_with_bound g.M.CostModel.KIND c.seat.inside.seat.me.0 c.args.s c.find_word.result c.seat.invariant.bounds b.some b.within found.made)
 
 pub returns-clause-view : goal.returns-clause-view
 returns-clause-view g c = let found = c.find_word.ensures.told.1 c.args.s c.place_of.ensures in rw (← c.seat.view_is) found.view

@@ -1,10 +1,8 @@
-use Rattle.std.proofs.Common.{rules, arith, ◌≡◌, ◌≤◌, ℕ, subst, sym, ap, ◌∙◌, List}
-use Rattle.dpe_base.specs.declared.pair.Pair.{Pair}
-use Rattle.dpe_base.specs.Queries.{JoinQuery, relations}
+use Rattle.std.proofs.Common.{rules, ◌≡◌, subst, sym}
+use Rattle.dpe_base.specs.Queries.{relations}
 use Rattle.memo_table.specs.declared.view.TreeSpace.{TreeSpace}
 use Rattle.memo_table.specs.Making.{space_of, HasLeaves}
 use Rattle.memo_table.specs.Rule.{IsTreeSpace}
-use Rattle.memo_table.specs.Seats.{Settled}
 use Rattle.memo_table.proofs.Leaves.{leaves_settled}
 use Rattle.memo_table.proofs.memo.Memo.make.Goals as goal
 

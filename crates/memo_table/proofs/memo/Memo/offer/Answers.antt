@@ -1,4 +1,4 @@
-use Rattle.std.proofs.Common.{rules, arith, ◌≡◌, ◌⊎◌, ◌+◌, refl, ◌∙◌}
+use Rattle.std.proofs.Common.{rules, arith, ◌≡◌, ◌⊎◌, ◌∙◌}
 use Rattle.dpe_base.specs.declared.TheConstants.{EMPTY}
 use Rattle.dpe_base.specs.Queries.{relations}
 use Rattle.dpe_base.specs.Sets.{Within, full}
@@ -32,8 +32,8 @@ invariant_of-seat g c =
     let word : (c.args.w ≡ EMPTY) ⊎ Made g.M.CostModel.KIND c.seat.inside.seat.me.0.query c.seat.inside.seat.me.0.pairs c.args.s c.args.w = rw (q, p) c.requires.word in
     let told = c.lower_word.ensures.told.1 in
     let kept = offer_keeps c.seat.inside.seat.me.0 c.args.s c.args.w in
-    seated _ _ _ _ c.seat.invariant c.lower_word.ensures.table (told.0 ∙ c.seat.invariant.no_slot) (told.1 c.args.s c.place_of.ensures) kept.0 (rw kept.2 c.seat.invariant.weight)
-    (made_with_offer _ c.seat.inside.seat.me.0 _ _ c.seat.invariant.bounds c.requires.some inside word)
+    seated g.M.CostModel.KIND c.seat.inside.seat _ _ c.seat.invariant c.lower_word.ensures.table (told.0 ∙ c.seat.invariant.no_slot) (told.1 c.args.s c.place_of.ensures) kept.0 (rw kept.2 c.seat.invariant.weight)
+    (made_with_offer g.M.CostModel.KIND c.seat.inside.seat.me.0 c.args.s c.args.w c.seat.invariant.bounds c.requires.some inside word)
 
 pub returns-clause-view : goal.returns-clause-view
 returns-clause-view g c = rw (← c.seat.view_is) (c.lower_word.ensures.told.1.1 c.args.s c.place_of.ensures)

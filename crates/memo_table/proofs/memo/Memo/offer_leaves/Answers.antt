@@ -1,4 +1,4 @@
-use Rattle.std.proofs.Common.{rules, arith, inr, ◌<◌, refl}
+use Rattle.std.proofs.Common.{arith, inr, ◌<◌, refl}
 use Rattle.dpe_base.specs.declared.TheConstants.{N_MAX}
 use Rattle.dpe_base.specs.Queries.{relations}
 use Rattle.memo_table.specs.Making.{space_of}
