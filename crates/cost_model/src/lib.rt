@@ -1,8 +1,13 @@
 //! What a join costs under a cost model, and memo words: cost, operator and left set in one number.
 #![tactic(auto)]
 
+pub mod laws;
 mod model;
+mod split;
+#[cfg(test)]
+mod tests;
 mod word;
 
 pub use model::{CostModel, Cout, ModelKind, Ops};
-pub use word::{Word, best_split};
+pub use split::best_split;
+pub use word::Word;

@@ -1,13 +1,18 @@
-ghost use Rattle.std.specs.Prelude.{◌≡◌, ◌≢◌, ◌≤◌, ◌<◌, ℕ, MatchOption, IsTrue, ◌↔◌, min, ◌+◌, ◌*◌};
-ghost use Rattle.cost_model.specs.Costs.{operators, join_cost};
-ghost use Rattle.cost_model.specs.Words.{word, word_cost, word_op, word_left, LoopWins, best_word};
+ghost use Rattle.std.specs.Prelude.{◌≡◌, ◌≤◌, ◌<◌, ℕ, MatchOption};
+ghost use Rattle.cost_model.specs.Words.{word, word_cost, word_op, word_left};
 
-use crate::model::CostModel;
-use dpe_base::{COST_LIMIT, EMPTY, Pair, ROW_CAP, RelSet, SPAN};
+use dpe_base::{COST_LIMIT, EMPTY, N_MAX, ROW_CAP, RelSet, SPAN};
 use std::marker::Model;
 
-/// The cost of a tree, the operator of its root and the left set in one number,
-/// which contracts see as that number.
+// Joins of all relations by the first operator cost less than the limit,
+const _: () = prove!((N_MAX as u64 - 1) * 4 * ROW_CAP < COST_LIMIT);
+
+// and a cost below the limit has room in a word beside an operator and a set.
+const _: () = prove!(COST_LIMIT as u128 * 4 * SPAN as u128 <= 1 << 64);
+
+/// The memo word of a tree: its cost, the operator of its root and the set of its left side in one number,
+/// which contracts see as that number. A leaf costs nothing, has the operator 3 and its own set.
+/// Words over one set are ordered by cost, then by operator, then by left set.
 #[derive(Clone, Copy, PartialEq, Eq, Debug)]
 pub struct Word {
     bits: u64,
@@ -25,9 +30,9 @@ impl Model for Word {
     ghost inverse = { λ n. record { bits = n } };
 }
 
-// The word of a join that costs this much, or `EMPTY`.
+// The word of these three, or `EMPTY`.
 #[tactic(auto, unfolding(crate::specs::Words::word))]
-fn word_of(cost: u64, op: u8, left: u32) -> u64
+pub(crate) fn word_of(cost: u64, op: u8, left: u32) -> u64
     requires op { op ≤ 3 }
     requires left { left < SPAN }
     ensures { result ≡ word cost op left }
@@ -40,7 +45,7 @@ fn word_of(cost: u64, op: u8, left: u32) -> u64
 }
 
 impl Word {
-    /// `None` exactly where the cost has no word.
+    /// The word of a tree that costs this much. `None` exactly where the cost has no word.
     pub fn of(cost: u128, op: u8, left: RelSet) -> Option<Word>
         requires op { op ≤ 3 }
         requires left { left < SPAN }
@@ -55,94 +60,38 @@ impl Word {
         }
     }
 
+    /// The word with these bits.
     pub fn of_bits(w: u64) -> Word
         ensures { result ≡ w }
     {
         Word { bits: w }
     }
 
+    /// The word as a number.
     pub fn bits(self) -> u64
         ensures { result ≡ self }
     {
         self.bits
     }
 
+    /// The cost of the tree.
     pub fn cost(self) -> u64
         ensures { result ≡ word_cost self }
     {
         self.bits / (4 * SPAN)
     }
 
+    /// The operator of the tree's root, and 3 for a leaf.
     pub fn op(self) -> u8
         ensures { result ≡ word_op self }
     {
         (self.bits / SPAN % 4) as u8
     }
 
+    /// The set of the left side of the tree's root, and the set of a leaf.
     pub fn left(self) -> RelSet
         ensures { result ≡ word_left self }
     {
         RelSet::of_bits((self.bits % SPAN) as u32)
-    }
-}
-
-// The left side of a hash join: the one with fewer rows, or else the lesser set.
-fn smaller_side(a: u32, b: u32, la: u64, lb: u64) -> u32
-    ensures first { la < lb → result ≡ a }
-    ensures second { lb < la → result ≡ b }
-    ensures lesser { la ≡ lb → result ≡ min a b }
-{
-    if la < lb || (la == lb && a < b) { a } else { b }
-}
-
-// Whether a loop costs less than the hash with the smaller side left.
-fn loop_wins(low: u64, high: u64) -> bool
-    requires { (1 ≤ low) × (low ≤ high) }
-    ensures { IsTrue result ↔ LoopWins low high }
-{
-    low == 1 || (low == 2 && high <= 3)
-}
-
-// The least word over both orders and the operators of `Ops`. A merge is never the least: it costs
-// more than a loop where a side has one row, and else more than a hash. A loop is the least only
-// where it costs less than the hash with the smaller side left.
-fn ops_split(a: u32, b: u32, sides: u64, la: u64, lb: u64, o: u64) -> u64
-    requires sets { (a < SPAN) × (b < SPAN) }
-    requires sides { sides < 2 * COST_LIMIT }
-    requires left { (1 ≤ la) × (la ≤ ROW_CAP) }
-    requires right { (1 ≤ lb) × (lb ≤ ROW_CAP) }
-    requires out { (1 ≤ o) × (o ≤ ROW_CAP) }
-    ensures { (wa wb : ℕ) → word_cost wa + word_cost wb ≡ sides → result ≡ best_word 0 a b wa wb la lb o }
-{
-    let (low, high) = (la.min(lb), la.max(lb));
-    if loop_wins(low, high) {
-        return word_of(sides + low * high + o, 2, a.min(b));
-    }
-    word_of(sides + 2 * low + high + o, 0, smaller_side(a, b, la, lb))
-}
-
-/// The least word over both orders of the sides and all operators, or `EMPTY`.
-pub fn best_split<M: CostModel>(
-    _model: &M,
-    pair: Pair,
-    wa: u64,
-    wb: u64,
-    la: u64,
-    lb: u64,
-    o: u64,
-) -> u64
-    requires words { (wa ≢ EMPTY) × (wb ≢ EMPTY) }
-    requires sets { (pair.a < SPAN) × (pair.b < SPAN) }
-    requires left { (1 ≤ la) × (la ≤ ROW_CAP) }
-    requires right { (1 ≤ lb) × (lb ≤ ROW_CAP) }
-    requires out { (1 ≤ o) × (o ≤ ROW_CAP) }
-    ensures { result ≡ best_word M.KIND pair.a pair.b wa wb la lb o }
-{
-    let sides = wa / (4 * SPAN) + wb / (4 * SPAN);
-    let (a, b) = (pair.a.bits(), pair.b.bits());
-    if M::KIND == 0 {
-        ops_split(a, b, sides, la, lb, o)
-    } else {
-        word_of(sides + o, 0, a.min(b))
     }
 }

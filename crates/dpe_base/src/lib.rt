@@ -7,6 +7,8 @@ mod pair;
 mod query;
 mod rel_set;
 mod steps;
+#[cfg(test)]
+mod tests;
 
 pub use kind::Kind;
 pub use name::Name;
@@ -35,3 +37,14 @@ pub const SPAN: u64 = 1 << 16;
 
 /// The memo word of no tree.
 pub const EMPTY: u64 = u64::MAX;
+
+/// The sum of the weights of all seats at a memo: one for each of 64 workers, and one that stays.
+pub const WEIGHT: u64 = 65;
+
+/// The tickets of a memo, both those that were drawn and those that may still be drawn.
+pub const DRAWS: u64 = 1 << 62;
+
+// Every connected set has a tree with a word, and every word is below 2 ^ 64.
+const _: () = prove!((N_MAX as u64 - 1) * (4 * ROW_CAP) < COST_LIMIT);
+
+const _: () = prove!(COST_LIMIT as u128 * 4 * SPAN as u128 <= 1 << 64);

@@ -21,12 +21,14 @@ impl Model for RelSet {
 }
 
 impl RelSet {
+    /// The set without a member.
     pub fn empty() -> RelSet
         ensures { result ≡ 0 }
     {
         RelSet { bits: 0 }
     }
 
+    /// The set of `r` alone.
     #[tactic(auto, unfolding(crate::specs::Sets::single))]
     pub fn single(r: u8) -> RelSet
         requires { r < 32 }
@@ -46,24 +48,28 @@ impl RelSet {
         }
     }
 
+    /// The set whose members are the places of the digits 1 of `b`.
     pub fn of_bits(b: u32) -> RelSet
         ensures { result ≡ b }
     {
         RelSet { bits: b }
     }
 
+    /// The number of which relation r is the binary digit of value 2 ^ r.
     pub fn bits(self) -> u32
         ensures { result ≡ self }
     {
         self.bits
     }
 
+    /// Whether `r` is a member.
     pub fn has(self, r: u8) -> bool
         ensures { IsTrue result ↔ Has self r }
     {
         r < 32 && (self.bits >> r) & 1 == 1
     }
 
+    /// The members of either set.
     #[tactic(auto, unfolding(crate::specs::Sets::union))]
     pub fn union(self, o: RelSet) -> RelSet
         ensures { result ≡ union self o }
@@ -73,6 +79,7 @@ impl RelSet {
         }
     }
 
+    /// The members that are not in `o`.
     #[tactic(auto, unfolding(crate::specs::Sets::minus))]
     pub fn minus(self, o: RelSet) -> RelSet
         ensures { result ≡ minus self o }
@@ -82,18 +89,21 @@ impl RelSet {
         }
     }
 
+    /// Whether some relation is in both sets.
     pub fn meets(self, o: RelSet) -> bool
         ensures { IsTrue result ↔ Meets self o }
     {
         self.bits & o.bits != 0
     }
 
+    /// Whether every member is in `o`.
     pub fn within(self, o: RelSet) -> bool
         ensures { IsTrue result ↔ Within self o }
     {
         self.bits & o.bits == self.bits
     }
 
+    /// How many members there are.
     #[tactic(auto, unfolding(crate::specs::Sets::size))]
     pub fn len(self) -> u32
         ensures { result ≡ size self }
@@ -101,6 +111,7 @@ impl RelSet {
         self.bits.count_ones()
     }
 
+    /// The least member, or none of the empty set.
     pub fn least(self) -> Option<u8>
         ensures { MatchOption result (self ≡ 0) (λ r. IsLeast self r) }
     {
@@ -111,7 +122,7 @@ impl RelSet {
         }
     }
 
-    /// The subset of `of` with the next greater number.
+    /// The subset of `of` with the next greater number, or none after `of` itself.
     pub fn next_subset(self, of: RelSet) -> Option<RelSet>
         requires { Within self of }
         ensures last { IsNone result ↔ (self ≡ of) }

@@ -1,5 +1,5 @@
 ghost use Rattle.std.specs.Prelude.{◌≡◌, ℕ, ◌<◌, ◌≤◌, ◌↔◌, IsTrue, MatchOption, IsNone, IfSome, All};
-ghost use Rattle.dpe_base.specs.Sets.{Has, Within, full};
+ghost use Rattle.dpe_base.specs.Sets.{Has, Within, full, union};
 ghost use Rattle.join_graph.specs.Graphs.{JoinGraph, graph_of, Crossed, Connected, Edge, other_end, adjacent_to, adjacency, IsNeighbours, IsFrontier, IsGrown, IsFirstUnreached, IsGraph};
 
 use dpe_base::{N_MAX, Pred, Query, RelSet};
@@ -65,6 +65,7 @@ fn adjacency(preds: &[Pred]) -> [RelSet; N_MAX]
 }
 
 impl Graph {
+    /// Two relations are neighbours where a predicate of the query has them as its ends.
     pub fn of(query: &Query) -> Graph
         ensures { result ≡ graph_of query.now }
     {
@@ -74,6 +75,7 @@ impl Graph {
         }
     }
 
+    /// How many relations the query has: they are the numbers below it.
     pub fn n(&self) -> u8
         ensures value { result ≡ self.now.n }
         ensures valid { IsGraph self.now }
@@ -87,15 +89,15 @@ impl Graph {
         ensures { (t : ℕ) → Has result t ↔ ((k : ℕ) × Has s k × Edge self.now k t) }
     {
         let mut all = RelSet::empty();
-        for r in 0..self.n {
-            if s.has(r) {
-                all = all.union(self.adjacent[r as usize]);
-            }
+        let mut rest = s;
+        'rest: while let Some(r) = rest.least() {
+            all = all.union(self.adjacent[r as usize]);
+            rest = rest.minus(RelSet::single(r));
         }
         all
     }
 
-    /// The relations outside `s` that are joined to one in `s`.
+    /// The relations outside `s` that a predicate joins to one in `s`.
     pub fn neighbours(&self, s: RelSet) -> RelSet
         requires { Within s (full self.now.n) }
         ensures { IsNeighbours self.now s result }
@@ -103,7 +105,7 @@ impl Graph {
         self.gathered(s).minus(s)
     }
 
-    /// Whether an edge has one end in `a` and the other in `b`.
+    /// Whether a predicate has one end in `a` and the other in `b`.
     pub fn joined(&self, a: RelSet, b: RelSet) -> bool
         requires a_in { Within a (full self.now.n) }
         requires b_in { Within b (full self.now.n) }
@@ -122,6 +124,19 @@ impl Graph {
         outside.minus(outside.minus(s))
     }
 
+    // The same of `part` and its frontier `more`. What is joined to `part` is in `more`, so that alone counts.
+    fn next_frontier(&self, part: RelSet, more: RelSet, s: RelSet) -> RelSet
+        requires within { Within more (full self.now.n) }
+        requires frontier { IsFrontier self.now part s more }
+        ensures { IsFrontier self.now (union part more) s result }
+    {
+        let outside = s.minus(part.union(more));
+        if outside.bits() == 0 {
+            return outside;
+        }
+        outside.minus(outside.minus(self.gathered(more)))
+    }
+
     // What a walk inside `s` reaches from `first`.
     fn grown(&self, first: u8, s: RelSet) -> RelSet
         requires within { Within s (full self.now.n) }
@@ -132,13 +147,14 @@ impl Graph {
         let mut part = RelSet::single(first);
         let mut more = self.frontier(part, s);
         'walk: while more.bits() != 0 {
+            let next = self.next_frontier(part, more, s);
             part = part.union(more);
-            more = self.frontier(part, s);
+            more = next;
         }
         part
     }
 
-    /// Whether every split of `s` into two parts that are not empty is crossed by an edge.
+    /// Whether `s` is not empty and a predicate crosses every split of `s` into two parts that are not empty.
     pub fn connected(&self, s: RelSet) -> bool
         requires { Within s (full self.now.n) }
         ensures { IsTrue result ↔ Connected self.now s }
@@ -150,12 +166,14 @@ impl Graph {
         }
     }
 
-    /// The least relation that no walk from relation 0 reaches.
+    /// The least relation that no walk from relation 0 reaches; `None` exactly where the graph is connected.
     pub fn first_unreached(&self) -> Option<u8>
         ensures none { IsNone result ↔ Connected self.now (full self.now.n) }
         ensures some { IfSome result (λ r. IsFirstUnreached self.now r) }
     {
         let all = RelSet::full(self.n);
-        all.minus(self.grown(0, all)).least()
+        let reached = self.grown(0, all);
+        let unreached = all.minus(reached);
+        unreached.least()
     }
 }

@@ -1,22 +1,57 @@
--- The trees of all pairs are the legal trees.
-use Rattle.std.proofs.Common.{◌≡◌, ℕ, ◌↔◌, inl, inr, List, Contains}
+-- The sets of trees, and that the trees of all pairs are the legal trees.
+use Rattle.std.proofs.Common.{◌≡◌, ℕ, ◌≤◌, ◌<◌, arith, inl, inr, List, Contains}
+use Rattle.std.proofs.lemmas.Bool.{cases_eq}
+use Rattle.dpe_base.specs.declared.TheConstants.{N_MAX, SPAN}
 use Rattle.dpe_base.specs.declared.pair.Pair.{Pair}
-use Rattle.dpe_base.specs.Queries.{JoinQuery, IsQuery}
-use Rattle.dpe_base.specs.Sets.{union}
+use Rattle.dpe_base.specs.Queries.{JoinQuery, relations, IsQuery}
+use Rattle.dpe_base.specs.Sets.{Within, union, single, full, size}
+use Rattle.dpe_base.proofs.SetLaws.{sets, same_set, member-same}
+use Rattle.dpe_base.proofs.SizeLaws.{size_none, within_span}
 use Rattle.join_graph.specs.Graphs.{JoinGraph, Connected, Pairs, pair_of, graph_of}
 use Rattle.join_graph.proofs.GraphLaws.{crossed_back, connected_union, connected_single, pair_either, grown_pair}
 use Rattle.join_graph.specs.PairLists.{SideBuilt}
-use Rattle.join_tree.specs.Trees.{JoinTree, leaf, join, set_of, Legal, Trees, Builds}
+use Rattle.join_tree.specs.Laws.{AllPairs}
+use Rattle.join_tree.specs.Trees.{JoinTree, leaf, join, set_of, Legal, LeavesBelow, Trees, Builds}
+
+-- ---- sets
+
+pub union_comm : (a b : ℕ) → union b a ≡ union a b
+union_comm a b = same_set _ _ (λ r. grind (arith, sets))
+
+-- a connected set has a relation
+pub connected_size_some : (g : JoinGraph) (s : ℕ) → Connected g s → 1 ≤ size s
+connected_size_some g s c = elim (cases_eq (size s) 0) [ inl e ↦ absurd (c.some (size_none s e)) | inr ne ↦ omega arith ]
+
+pub connected_single_known : (g : JoinGraph) (s r : ℕ) → Connected g s → s ≡ single r → r < g.n
+connected_single_known g s r c e = grind (arith, sets, c.within r, member-same e r)
+
+pub connected_small : (q : JoinQuery) → IsQuery q → (s : ℕ) → Connected (graph_of q) s → s < SPAN
+connected_small q ok s c = within_span s (relations q) c.within ok.few
+
+-- ---- leaves
+
+pub leaves_within : (n : ℕ) (t : JoinTree) → LeavesBelow n t → Within (set_of t) (full n)
+leaves_within n (leaf k) l r h = grind (arith, sets)
+leaves_within n (join op left right) l r h = grind (arith, sets, leaves_within n left l.0 r, leaves_within n right l.1 r)
+
+pub leaves_small : (n : ℕ) (t : JoinTree) → n ≤ N_MAX → LeavesBelow n t → set_of t < SPAN
+leaves_small n t few l = within_span (set_of t) n (leaves_within n t l) few
+
+pub legal_leaves : (kind n : ℕ) (g : JoinGraph) (t : JoinTree) → g.n ≤ n → Legal kind g t → LeavesBelow n t
+legal_leaves kind n g (leaf r) le l = omega (arith, l)
+legal_leaves kind n g (join op left right) le l = (legal_leaves kind n g left le l.1, legal_leaves kind n g right le l.2)
+
+pub trees_leaves : (kind : ℕ) (q : JoinQuery) (pairs : List Pair) (t : JoinTree) → Trees kind q pairs t → LeavesBelow (relations q) t
+trees_leaves kind q pairs (leaf r) m = m
+trees_leaves kind q pairs (join op left right) m = (trees_leaves kind q pairs left m.1, trees_leaves kind q pairs right m.2)
+
+-- ---- the legal trees
 
 -- the leaves of a legal tree are a connected set
 pub legal_connected : (kind : ℕ) (g : JoinGraph) (t : JoinTree) → Legal kind g t → Connected g (set_of t)
 legal_connected kind g (leaf r) l = connected_single g r l
 legal_connected kind g (join op left right) l =
     connected_union g (set_of left) (set_of right) (legal_connected kind g left l.1) (legal_connected kind g right l.2) l.4
-
--- the members of the list are the pairs of q
-abbrev AllPairs : JoinQuery → List Pair → Type 0
-AllPairs q pairs = (p : Pair) → Contains pairs p ↔ Pairs (graph_of q) p
 
 pub legal_made : (kind : ℕ) (q : JoinQuery) (pairs : List Pair) → IsQuery q → AllPairs q pairs → (t : JoinTree) → Legal kind (graph_of q) t → Trees kind q pairs t
 legal_made kind q pairs ok all (leaf r) l = l
@@ -40,15 +75,16 @@ made_legal kind q pairs all (join op left right) l = (
   elim l.3 [ inl c ↦ (all _ c).crossed | inr c ↦ crossed_back (graph_of q) (set_of right) (set_of left) (all _ c).crossed ],
 )
 
-connected_made : (q : JoinQuery) (pairs : List Pair) → IsQuery q → AllPairs q pairs → (s : ℕ) → Connected (graph_of q) s → SideBuilt pairs s
-connected_made q pairs ok all s c many =
+-- a connected set of two relations or more is the union of a pair
+pub connected_built : (q : JoinQuery) (pairs : List Pair) → IsQuery q → AllPairs q pairs → (s : ℕ) → Connected (graph_of q) s → SideBuilt pairs s
+connected_built q pairs ok all s c many =
     let p : (p : Pair) × Pairs (graph_of q) p × (union p.a p.b ≡ s) = grown_pair (graph_of q) s ok.few c many in
     (p.0, (all p.0).1 p.1, p.2)
 
--- such a list builds: a connected set of two relations or more is the union of a pair
+-- so such a list builds
 pub all_pairs_build : (q : JoinQuery) (pairs : List Pair) → IsQuery q → AllPairs q pairs → Builds (graph_of q) pairs
 all_pairs_build q pairs ok all =
     record {
       within = λ p c. (all p).0 c;
-      sides = λ p c. (connected_made q pairs ok all p.a ((all p).0 c).first, connected_made q pairs ok all p.b ((all p).0 c).second);
+      sides = λ p c. (connected_built q pairs ok all p.a ((all p).0 c).first, connected_built q pairs ok all p.b ((all p).0 c).second);
     }

@@ -21,11 +21,13 @@ abbrev pub set_of : JoinTree → ℕ
 set_of (leaf r) = single r
 set_of (join op left right) = union (set_of left) (set_of right)
 
+-- each leaf is below n
 abbrev pub LeavesBelow : ℕ → JoinTree → Type 0
 LeavesBelow n (leaf r) = r < n
 LeavesBelow n (join op left right) = LeavesBelow n left × LeavesBelow n right
 
--- a bushy tree without cross products
+-- a bushy tree without cross products: its leaves are relations of the graph, and each join has an operator of the
+-- model and two sides that have no relation in common and are crossed by an edge
 abbrev pub Legal : ℕ → JoinGraph → JoinTree → Type 0
 Legal kind g (leaf r) = r < g.n
 Legal kind g (join op left right) =
@@ -35,13 +37,15 @@ Legal kind g (join op left right) =
     × Disjoint (set_of left) (set_of right)
     × Crossed g (set_of left) (set_of right)
 
+-- the costs of all joins of the tree, each on the rows of its two sides and of their union
 abbrev pub cost : ℕ → JoinQuery → JoinTree → ℕ
 cost kind q (leaf r) = 0
 cost kind q (join op left right) =
     cost kind q left + cost kind q right
     + join_cost kind op (rows q (set_of left)) (rows q (set_of right)) (rows q (union (set_of left) (set_of right)))
 
--- the word of a tree, or EMPTY where it costs COST_LIMIT or more
+-- the word of a tree, with the operator of its root and its left set, or EMPTY where it costs COST_LIMIT or more; a leaf
+-- costs nothing, and its word has the operator 3 and its own set
 abbrev pub root_word : ℕ → JoinQuery → JoinTree → ℕ
 root_word kind q (leaf r) = 3 * SPAN + single r
 root_word kind q (join op left right) = word (cost kind q (join op left right)) op (set_of left)
@@ -89,20 +93,24 @@ pub record Least (kind : ℕ) (q : JoinQuery) (pairs : List Pair) (s w : ℕ) : 
   pub made : Made kind q pairs s w
   pub least : (v : ℕ) → Made kind q pairs s v → w ≤ v
 
--- v is the least word of the pair over both orders and all operators, on the least words of its sides
-pub record SplitWord (kind : ℕ) (q : JoinQuery) (pairs : List Pair) (p : Pair) (v : ℕ) : Type 0 where
+-- the least word of a join of the pair's two sets, over both orders and all operators, on these words of theirs, or EMPTY
+abbrev pub pair_word : ℕ → JoinQuery → Pair → ℕ → ℕ → ℕ
+pair_word kind q p first second = best_word kind p.a p.b first second (rows q p.a) (rows q p.b) (rows q (union p.a p.b))
+
+-- v is the least word of the pair: on the least words of its sides
+pub record LeastOfPair (kind : ℕ) (q : JoinQuery) (pairs : List Pair) (p : Pair) (v : ℕ) : Type 0 where
   pub first : ℕ
   pub second : ℕ
   pub least_first : Least kind q pairs p.a first
   pub least_second : Least kind q pairs p.b second
-  pub is : v ≡ best_word kind p.a p.b first second (rows q p.a) (rows q p.b) (rows q (union p.a p.b))
+  pub is : v ≡ pair_word kind q p first second
 
 -- w is the least of these words over the pairs of the list with union s
-pub record LeastSplit (kind : ℕ) (q : JoinQuery) (pairs : List Pair) (s w : ℕ) : Type 0 where
-  pub some : (p : Pair) × Contains pairs p × (union p.a p.b ≡ s) × SplitWord kind q pairs p w
-  pub least : (p : Pair) (v : ℕ) → Contains pairs p → union p.a p.b ≡ s → SplitWord kind q pairs p v → w ≤ v
+pub record LeastOverPairs (kind : ℕ) (q : JoinQuery) (pairs : List Pair) (s w : ℕ) : Type 0 where
+  pub some : (p : Pair) × Contains pairs p × (union p.a p.b ≡ s) × LeastOfPair kind q pairs p w
+  pub least : (p : Pair) (v : ℕ) → Contains pairs p → union p.a p.b ≡ s → LeastOfPair kind q pairs p v → w ≤ v
 
--- the pairs are pairs of the graph, and their sides are made of pairs
+-- the pairs are pairs of the graph, and each side of two relations or more is the union of one of them
 pub record Builds (g : JoinGraph) (pairs : List Pair) : Type 0 where
   pub within : (p : Pair) → Contains pairs p → Pairs g p
   pub sides : (p : Pair) → Contains pairs p → SideBuilt pairs p.a × SideBuilt pairs p.b

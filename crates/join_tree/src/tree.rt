@@ -23,6 +23,7 @@ pub enum Tree {
 }
 
 // What the operator costs on two connected sets.
+#[tactic(auto, using(crate::proofs::TreeCosts::rows_bounds))]
 fn operator_cost<M: CostModel>(
     model: &M,
     query: &Query,
@@ -33,7 +34,9 @@ fn operator_cost<M: CostModel>(
     requires op { op < operators M.KIND }
     requires left { Connected (graph_of query.now) left }
     requires right { Connected (graph_of query.now) right }
-    ensures value { result ≡ join_cost M.KIND op (rows query.now left) (rows query.now right) (rows query.now (union left right)) }
+    ensures value { result ≡
+        join_cost M.KIND op (rows query.now left) (rows query.now right)
+        (rows query.now (union left right)) }
     ensures small { result < 2 ^ 90 }
 {
     let (l, r) = (rows_once(query, left), rows_once(query, right));
@@ -90,10 +93,11 @@ impl Tree {
     /// the cost is `COST_LIMIT` or more.
     pub fn root_word<M: CostModel>(&self, model: &M, query: &Query) -> Option<Word>
         requires { Legal M.KIND (graph_of query.now) (tree_of self.now) }
-        ensures { MatchOption
-            result
-            (COST_LIMIT ≤ cost M.KIND query.now (tree_of self.now))
-            (λ w. (cost M.KIND query.now (tree_of self.now) < COST_LIMIT) × (w ≡ root_word M.KIND query.now (tree_of self.now))) }
+        ensures { let tree = tree_of self.now in
+            let total = cost M.KIND query.now tree in
+            MatchOption result
+            (COST_LIMIT ≤ total)
+            (λ w. (total < COST_LIMIT) × (w ≡ root_word M.KIND query.now tree)) }
     {
         let _n = query.n();
         let cost = self.cost(model, query);

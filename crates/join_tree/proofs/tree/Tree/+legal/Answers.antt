@@ -4,8 +4,7 @@ use Rattle.std.proofs.lemmas.Bool.{iff_false}
 use Rattle.dpe_base.specs.Sets.{Within, Disjoint, full}
 use Rattle.cost_model.specs.Costs.{operators}
 use Rattle.join_tree.specs.Trees.{LeavesBelow, Legal, set_of}
-use Rattle.join_tree.proofs.TreeLaws.{legal_connected}
-use Rattle.join_tree.proofs.TreeCosts.{legal_leaves}
+use Rattle.join_tree.proofs.TreeLaws.{legal_connected, legal_leaves}
 use Rattle.join_tree.proofs.tree.Tree.+legal.Goals as goal
 
 pub set-l-requires : goal.set-l-requires

@@ -1,4 +1,4 @@
-use Rattle.std.proofs.Common.{◌≡◌, MatchOption, ◌<◌, ◌≤◌, ◌∙◌, sym, ap, subst}
+use Rattle.std.proofs.Common.{arith, ◌≡◌, MatchOption, ◌<◌, ◌≤◌, sym, ap, subst}
 use Rattle.join_tree.specs.TreeOf.{tree_of}
 use Rattle.join_tree.specs.Trees.{LeavesBelow, Legal, set_of, cost, root_word}
 use Rattle.dpe_base.specs.declared.TheConstants.{COST_LIMIT}
@@ -28,5 +28,6 @@ of-requires-in-Join-clause-left g c =
 pub returns-in-Leaf : goal.returns-in-Leaf
 returns-in-Leaf g c =
     let no_cost : cost g.M.CostModel.KIND c.args.query.now (tree_of c.args.self.now) ≡ 0 = ap (λ x. cost g.M.CostModel.KIND c.args.query.now (tree_of x)) c.in-Leaf.is in
+    let free : c.cost-cost.result ≡ 0 = omega (arith, c.cost-cost.ensures, no_cost) in
     subst (λ x. MatchOption c.of.result (COST_LIMIT ≤ cost g.M.CostModel.KIND c.args.query.now (tree_of x)) (λ w. (cost g.M.CostModel.KIND c.args.query.now (tree_of x) < COST_LIMIT) × (w ≡ root_word g.M.CostModel.KIND c.args.query.now (tree_of x)))) (sym c.in-Leaf.is)
-    (leaf_answer c.of.result c.cost-cost.result c.single.result c.in-Leaf.r (c.cost-cost.ensures ∙ no_cost) c.single.ensures c.of.ensures)
+    (leaf_answer c.of.result c.cost-cost.result c.single.result c.in-Leaf.r free c.single.ensures c.of.ensures)

@@ -1,0 +1,27 @@
+ghost use Rattle.cost_model.specs.Laws.{CostsAreBounded, WordsHoldTheirParts, WordsAreOrdered, EmptyIsNoWord, BestWordIsLeast};
+
+/// Every operator costs less than 2^90, and the first one at most four times the greatest number of rows.
+pub fn costs_are_bounded()
+    ensures { CostsAreBounded }
+{}
+
+/// The cost, the operator and the left set are read back from a word.
+pub fn words_hold_their_parts()
+    ensures { WordsHoldTheirParts }
+{}
+
+/// Words are ordered by cost, then by operator, then by left set.
+pub fn words_are_ordered()
+    ensures { WordsAreOrdered }
+{}
+
+/// `EMPTY` stands exactly where the cost has no word.
+pub fn empty_is_no_word()
+    ensures { EmptyIsNoWord }
+{}
+
+/// What `best_split` answers is at most the word of each order and operator, and is one of them or `EMPTY`.
+/// It is `EMPTY` exactly where none of them has a word.
+pub fn best_word_is_least()
+    ensures { BestWordIsLeast }
+{}

@@ -1,0 +1,141 @@
+use crate::{INPUT_CAP, Name, Pred, Query, QueryFault, Rel, RelSet};
+use std::alloc::{AllocError, Global};
+use std::cmp::Ordering;
+use std::test::Fail;
+
+#[test]
+fn subsets_ascend_as_numbers(rt: HostRuntime) -> Result<(), Fail> {
+    let whole = RelSet::of_bits(0b1_0110);
+    let wanted: [u32; 8] = [0, 2, 4, 6, 16, 18, 20, 22];
+    let mut next = Some(RelSet::empty());
+    for want in wanted {
+        let subset = next.ok_or("too few")?;
+        assert_eq!(rt; subset.bits(), want);
+        assert!(rt; subset.within(whole));
+        next = subset.next_subset(whole);
+    }
+    assert_eq!(rt; next, None);
+    Ok(())
+}
+
+#[test]
+fn sets_in_list_order(rt: HostRuntime) {
+    // {} < {0} < {0, 1, 2} < {0, 2} < {1} < {1, 2} < {2} < {31}
+    let sets: [u32; 8] = [0, 1, 7, 5, 2, 6, 4, 1 << 31];
+    for i in 0..8 {
+        for k in 0..8 {
+            let order = RelSet::of_bits(sets[i]).cmp_list(RelSet::of_bits(sets[k]));
+            assert_eq!(rt; order, i.cmp(&k), "{i} and {k}");
+        }
+    }
+    assert_eq!(rt;
+        RelSet::full(32).cmp_list(RelSet::full(31)),
+        Ordering::Greater
+    );
+}
+
+fn query_of(
+    alloc: Global,
+    rels: usize,
+    preds: usize,
+    rel: Rel,
+    pred: Pred,
+) -> Result<Result<Query, QueryFault>, AllocError> {
+    let mut all = Vec::new(alloc);
+    for _ in 0..rels {
+        all.push(rel)?;
+    }
+    let mut joins = Vec::new(alloc);
+    for _ in 0..preds {
+        joins.push(pred)?;
+    }
+    Ok(Query::new(all, joins))
+}
+
+#[test]
+fn the_first_fault_of_a_query(rt: HostRuntime) -> Result<(), Fail> {
+    let rel = Rel {
+        rows: INPUT_CAP,
+        num: 1,
+        den: INPUT_CAP,
+    };
+    let pred = Pred {
+        low: 0,
+        high: 1,
+        num: 2,
+        den: 2,
+    };
+    let many = Rel {
+        rows: INPUT_CAP + 1,
+        num: 1,
+        den: 1,
+    };
+    let cases: [(usize, usize, Rel, Pred, Option<QueryFault>); 10] = [
+        (2, 1024, rel, pred, None),
+        (1, 0, rel, pred, None),
+        (0, 1025, rel, pred, Some(QueryFault::NoRelations)),
+        (17, 1025, rel, pred, Some(QueryFault::TooManyRelations(17))),
+        (16, 1025, many, pred, Some(QueryFault::TooManyPreds(1025))),
+        (
+            2,
+            1,
+            many,
+            Pred {
+                low: 1,
+                high: 1,
+                num: 1,
+                den: 1,
+            },
+            Some(QueryFault::BadRel(0)),
+        ),
+        (
+            2,
+            0,
+            Rel {
+                rows: 0,
+                num: 0,
+                den: 1,
+            },
+            pred,
+            Some(QueryFault::BadRel(0)),
+        ),
+        (
+            2,
+            1,
+            rel,
+            Pred {
+                low: 1,
+                high: 1,
+                num: 1,
+                den: 1,
+            },
+            Some(QueryFault::BadPred(0)),
+        ),
+        (1, 1, rel, pred, Some(QueryFault::BadPred(0))),
+        (
+            2,
+            1,
+            rel,
+            Pred {
+                low: 0,
+                high: 1,
+                num: 3,
+                den: 2,
+            },
+            Some(QueryFault::BadPred(0)),
+        ),
+    ];
+    for (rels, preds, rel, pred, want) in cases {
+        let fault = query_of(rt.alloc(), rels, preds, rel, pred)?.err();
+        assert_eq!(rt; fault, want, "{rels} relations, {preds} predicates");
+    }
+    Ok(())
+}
+
+#[test]
+fn a_name_keeps_its_text(rt: HostRuntime) -> Result<(), Fail> {
+    let name = Name::of(String::from_str(rt.alloc(), "größe")?);
+    let again = Name::copy(rt.alloc(), &name)?;
+    assert_eq!(rt; again.text(), "größe");
+    Ok(())
+}

@@ -1,0 +1,219 @@
+-- What one step takes from the first sides, and from the second sides of one.
+use Rattle.std.proofs.Common.{◌≡◌, ◌≢◌, ℕ, zero, suc, ◌+◌, ◌-◌, ◌*◌, ◌/◌, ◌%◌, ◌^◌, ◌<◌, ◌≤◌, inl, inr, arith, refl, sym, ◌∙◌, ap, subst, Bool, cond, List, [], ◌∷◌, ◌++◌, nat_eq}
+use Rattle.std.proofs.Math.Nat.{mul-le-mul_right, pow-suc}
+use Rattle.std.specs.Int.{bit_at}
+use Rattle.std.specs.Int.Count.{count_leading_zeros}
+use Rattle.std.specs.List.{Contains, filter, flat_map}
+use Rattle.std.proofs.lemmas.Bool.{cases_eq, cases_lt, cond-true, cond-false, eqb-true, eq-eqb, ne_eqb}
+use Rattle.std.proofs.lemmas.Nat.{leading_top, div-add-mod'}
+use Rattle.std.proofs.lemmas.Nat.Bits.{bit_at_above}
+use Rattle.dpe_base.specs.declared.TheConstants.{N_MAX}
+use Rattle.dpe_base.specs.Sets.{Has, Within, IsLeast, member, union, inter, minus, single, full}
+use Rattle.dpe_base.proofs.SetLaws.{sets, same_set, empty_has, has_some, single_has, single_one, full_has, full_limit, union_right, minus_left, minus_right}
+use Rattle.join_graph.specs.Graphs.{JoinGraph, IsGraph, Connected}
+use Rattle.pair_stream.specs.Subsets.{least, descending}
+use Rattle.pair_stream.proofs.Lists.{contains_none, contains_head, contains_tail, passes_from_filter}
+use Rattle.pair_stream.proofs.SubsetLaws.{descending_has}
+use Rattle.enum_dpccp.specs.Dpccp.{grown_from, all_extensions, neighbours_outside, excluded, first_sides, second_sides}
+use Rattle.enum_dpccp.specs.Sides.{IsGreatest, first_sides_below, second_sides_from}
+use Rattle.enum_dpccp.proofs.Depth.{flat_map_agree, outside_in_graph}
+use Rattle.enum_dpccp.proofs.SideLaws.{least_of, below_graph, first_has}
+
+-- ---- the greatest member
+
+quotient_one : (s p : ℕ) → p ≤ s → s < p + p → s / p ≡ 1
+quotient_one s p l m =
+    elim (cases_lt (s / p) 1) [
+      | inl z ↦ absurd (omega (arith, div-add-mod' s p, zero_times (s / p) p (omega arith)))
+      | inr g ↦ elim (cases_lt (s / p) 2) [
+        | inl k ↦ omega arith
+        | inr k ↦ absurd (omega (arith, div-add-mod' s p, mul-le-mul_right {m = 2} {n = s / p} p k, two_times p))
+      ]
+    ]
+  where
+    zero_times : (q p : ℕ) → q ≡ 0 → q * p ≡ 0
+    zero_times q p e = ap (λ (k : ℕ). k * p) e ∙ omega arith
+
+    two_times : (p : ℕ) → 2 * p ≡ p + p
+    two_times p = omega arith
+
+top_digit : (s j : ℕ) → 2 ^ j ≤ s → s < 2 ^ suc j → bit_at s j ≡ 1
+top_digit s j l m = ap (λ (k : ℕ). k % 2) (quotient_one s (2 ^ j) l (omega (arith, pow-suc 2 j)))
+
+pub greatest_by_zeros : (s : ℕ) → s < 2 ^ 32 → s ≢ 0 → IsGreatest s (31 - count_leading_zeros 32 s)
+unfolding member
+greatest_by_zeros s b ne =
+    let t : (j : ℕ) × (count_leading_zeros 32 s + suc j ≡ 32) × (2 ^ j ≤ s) × (s < 2 ^ suc j) = leading_top 32 s (omega arith) b in
+    let e : t.0 ≡ 31 - count_leading_zeros 32 s = omega (arith, t.1) in
+    subst (λ (j : ℕ). (bit_at s j ≡ 1) × ((k : ℕ) → bit_at s k ≡ 1 → k ≤ j)) e
+    (top_digit s t.0 t.2 t.3, λ k h. elim (cases_lt t.0 k) [ inl l ↦ absurd (omega (arith, bit_at_above s (suc t.0) k t.3 (omega (arith, l)), h)) | inr g ↦ g ])
+
+-- ---- what a first side excludes
+
+pub least_room : (g : JoinGraph) (a r : ℕ) → IsGraph g → Connected g a → IsLeast a r → r < N_MAX
+least_room g a r ok c l = omega (arith, below_graph g ok a r c l.0, ok.few)
+
+pub excluded_by : (g : JoinGraph) (a r f u : ℕ) → IsGraph g → Connected g a → IsLeast a r → f ≡ full (r + 1) → u ≡ union f a → u ≡ excluded a
+excluded_by g a r f u ok c l ef eu = eu ∙ ap (λ (k : ℕ). union k a) (ef ∙ ap full same)
+  where
+    same : r + 1 ≡ suc (least a)
+    same = omega (arith, l.1 (least a) (least_of g ok a c).0, (least_of g ok a c).1 r l.0)
+
+-- ---- first sides
+
+pub first_start : (g : JoinGraph) (grown : List ℕ) (n : ℕ) → grown ≡ [] → n ≡ g.n → grown ++ first_sides_below g n ≡ first_sides g
+unfolding first_sides first_sides_below
+first_start g grown n e en = ap (λ xs. xs ++ first_sides_below g n) e ∙ ap (first_sides_below g) en
+
+pub first_start_connected : (g : JoinGraph) (left : List ℕ) → IsGraph g → left ≡ first_sides g → (a : ℕ) → Contains left a → Connected g a
+first_start_connected g left ok e a h = (first_has g ok a).0 (subst (λ xs. Contains xs a) e h)
+
+pub first_end : (g : JoinGraph) (grown : List ℕ) (n : ℕ) → grown ≡ [] → n ≡ 0 → grown ++ first_sides_below g n ≡ []
+unfolding first_sides_below descending
+first_end g grown n e en = ap (λ xs. xs ++ first_sides_below g n) e ∙ ap (first_sides_below g) en
+
+first_below : (g : JoinGraph) (i : ℕ) → first_sides_below g (suc i) ≡ single i ∷ (all_extensions g (single i) (full (suc i)) ++ first_sides_below g i)
+unfolding first_sides_below descending grown_from
+first_below g i = refl
+
+pub first_next : (g : JoinGraph) (old now : List ℕ) (n i s x : ℕ) → old ≡ [] → n ≢ 0 → i ≡ n - 1 → s ≡ single i → x ≡ full (i + 1) → now ≡ all_extensions g s x → old ++ first_sides_below g n ≡ s ∷ (now ++ first_sides_below g i)
+first_next g old now n i s x eo ne ei es ex en =
+    ap (λ xs. xs ++ first_sides_below g n) eo
+    ∙ ap (first_sides_below g) count
+    ∙ first_below g i
+    ∙ ap (λ (k : ℕ). k ∷ (all_extensions g k (full (suc i)) ++ first_sides_below g i)) (sym es)
+    ∙ ap (λ (k : ℕ). s ∷ (all_extensions g s k ++ first_sides_below g i)) (sym (ex ∙ ap full one_more))
+    ∙ ap (λ xs. s ∷ (xs ++ first_sides_below g i)) (sym en)
+  where
+    count : n ≡ suc i
+    count = omega (arith, ne, ei)
+
+    one_more : i + 1 ≡ suc i
+    one_more = omega arith
+
+pub start_known : (g : JoinGraph) (i s : ℕ) → s ≡ single i → i < g.n → Within s (full g.n)
+start_known g i s e l r h = full_has g.n r (omega (arith, l, single_one i r (subst (λ (k : ℕ). Has k r) e h)))
+
+pub start_some : (i s : ℕ) → s ≡ single i → s ≢ 0
+start_some i s e z = has_some (single i) i (single_has i) (sym e ∙ z)
+
+pub start_below : (i s x : ℕ) → s ≡ single i → x ≡ full (i + 1) → Within s x
+start_below i s x e ex r h =
+    subst (λ (k : ℕ). Has k r) (sym ex) (full_has (i + 1) r (omega (arith, single_one i r (subst (λ (k : ℕ). Has k r) e h))))
+
+-- the head of the list, and the rest, are connected where all of it is
+pub head_connected : (g : JoinGraph) (old now : List ℕ) (a : ℕ) → ((s : ℕ) → Contains old s → Connected g s) → old ≡ a ∷ now → Connected g a
+head_connected g old now a h e = h a (subst (λ xs. Contains xs a) (sym e) (contains_head a now))
+
+pub rest_connected : (g : JoinGraph) (old now : List ℕ) (a : ℕ) → ((s : ℕ) → Contains old s → Connected g s) → old ≡ a ∷ now → (s : ℕ) → Contains now s → Connected g s
+rest_connected g old now a h e s c = h s (subst (λ xs. Contains xs s) (sym e) (contains_tail a now s c))
+
+pub none_connected : (g : JoinGraph) (now : List ℕ) → now ≡ [] → (s : ℕ) → Contains now s → Connected g s
+none_connected g now e s c = absurd (contains_none s (subst (λ xs. Contains xs s) e c))
+
+-- ---- second sides
+
+filter_agree : (p q : ℕ → Bool) (xs : List ℕ) → ((x : ℕ) → Contains xs x → p x ≡ q x) → filter p xs ≡ filter q xs
+filter_agree p q [] h = refl
+filter_agree p q (x ∷ xs) h = at (p x) (q x) (h x (contains_head x xs)) (filter_agree p q xs (λ y c. h y (contains_tail x xs y c)))
+  where
+    at : (a b : Bool) → a ≡ b → filter p xs ≡ filter q xs → cond a (x ∷ filter p xs) (filter p xs) ≡ cond b (x ∷ filter q xs) (filter q xs)
+    at a b e r = ap (λ (v : Bool). cond v (x ∷ filter p xs) (filter p xs)) e ∙ ap (λ ys. cond b (x ∷ ys) ys) r
+
+abbrev in_set : ℕ → ℕ → Bool
+in_set s i = nat_eq (member s i) 1
+
+-- the greatest member comes first, and then the others
+members_descending : (n s i : ℕ) → i < n → IsGreatest s i → filter (in_set s) (descending n) ≡ i ∷ filter (in_set (minus s (single i))) (descending n)
+unfolding descending
+members_descending zero s i l m = absurd (omega arith)
+members_descending (suc n) s i l m =
+    elim (cases_eq n i) [
+      | inl e ↦
+          cond-true (in_set s n) (n ∷ filter (in_set s) (descending n)) (filter (in_set s) (descending n)) (eq-eqb _ _ (subst (Has s) (sym e) m.0))
+          ∙ ap (λ (k : ℕ). k ∷ filter (in_set s) (descending n)) e
+          ∙ ap (λ xs. i ∷ xs) (filter_agree (in_set s) (in_set (minus s (single i))) (descending n) (λ k c. ap (λ (v : ℕ). nat_eq v 1) (other_same k (omega (arith, (descending_has n k).0 c)))))
+          ∙ ap (λ xs. i ∷ xs) (sym (cond-false (in_set (minus s (single i)) n) (n ∷ filter (in_set (minus s (single i))) (descending n)) (filter (in_set (minus s (single i))) (descending n)) (ne_eqb _ _ (λ h. taken n e h))))
+      | inr ne ↦
+          cond-false (in_set s n) (n ∷ filter (in_set s) (descending n)) (filter (in_set s) (descending n)) (ne_eqb _ _ (λ (h : Has s n). omega (arith, m.1 n h, ne)))
+          ∙ members_descending n s i (omega (arith, ne)) m
+          ∙ ap (λ xs. i ∷ xs) (sym (cond-false (in_set (minus s (single i)) n) (n ∷ filter (in_set (minus s (single i))) (descending n)) (filter (in_set (minus s (single i))) (descending n)) (ne_eqb _ _ (λ (h : Has (minus s (single i)) n). omega (arith, m.1 n (minus_left s (single i) n h), ne)))))
+    ]
+  where
+    other_same : (k : ℕ) → k ≢ i → member s k ≡ member (minus s (single i)) k
+    other_same k ne = grind (arith, sets)
+
+    taken : (k : ℕ) → k ≡ i → Has (minus s (single i)) k → ⊥
+    taken k e h = grind (arith, sets)
+
+-- the starts up to the greatest are all of them
+all_starts : (starts i : ℕ) → IsGreatest starts i → inter starts (full (suc i)) ≡ starts
+all_starts starts i m = same_set _ _ (λ r. at r (m.1 r))
+  where
+    at : (r : ℕ) → (Has starts r → r ≤ i) → member (inter starts (full (suc i))) r ≡ member starts r
+    at r f = grind (arith, sets)
+
+-- and up to a smaller one the greatest plays no part
+same_starts : (starts i k : ℕ) → k < i → inter starts (full (suc k)) ≡ inter (minus starts (single i)) (full (suc k))
+same_starts starts i k l = same_set _ _ (λ r. grind (arith, sets))
+
+second_below : (g : JoinGraph) (x starts i : ℕ) → i < g.n → IsGreatest starts i → second_sides_from g x starts ≡ single i ∷ (all_extensions g (single i) (union x starts) ++ second_sides_from g x (minus starts (single i)))
+unfolding second_sides_from grown_from
+second_below g x starts i l m =
+    ap (flat_map (λ k. grown_from g (union x (inter starts (full (suc k)))) k)) (members_descending g.n starts i l m)
+    ∙ ap (λ (k : ℕ). (single i ∷ all_extensions g (single i) (union x k)) ++ flat_map (λ k. grown_from g (union x (inter starts (full (suc k)))) k) rest) (all_starts starts i m)
+    ∙ ap (λ xs. (single i ∷ all_extensions g (single i) (union x starts)) ++ xs)
+    (flat_map_agree (λ k. grown_from g (union x (inter starts (full (suc k)))) k) (λ k. grown_from g (union x (inter (minus starts (single i)) (full (suc k)))) k) rest
+    (λ k c. ap (λ (y : ℕ). grown_from g (union x y) k) (same_starts starts i k (smaller k c))))
+  where
+    rest : List ℕ
+    rest = filter (in_set (minus starts (single i))) (descending g.n)
+
+    smaller : (k : ℕ) → Contains rest k → k < i
+    smaller k c =
+        let h : Has (minus starts (single i)) k = eqb-true _ _ (passes_from_filter (in_set (minus starts (single i))) (descending g.n) k c) in
+        elim (cases_eq k i) [
+          | inl e ↦ absurd (minus_right starts (single i) k h (subst (λ (r : ℕ). Has (single i) r) (sym e) (single_has i)))
+          | inr ne ↦ omega (arith, m.1 k (minus_left starts (single i) k h), ne)
+        ]
+
+pub second_next : (g : JoinGraph) (old now : List ℕ) (x starts i s e rest : ℕ) → old ≡ [] → Within starts (full g.n) → IsGreatest starts i → s ≡ single i → e ≡ union x starts → rest ≡ minus starts s → now ≡ all_extensions g s e → old ++ second_sides_from g x starts ≡ s ∷ (now ++ second_sides_from g x rest)
+second_next g old now x starts i s e rest eo w m es ee er en =
+    ap (λ xs. xs ++ second_sides_from g x starts) eo
+    ∙ second_below g x starts i (full_limit g.n i (w i m.0)) m
+    ∙ ap (λ (k : ℕ). k ∷ (all_extensions g k (union x starts) ++ second_sides_from g x (minus starts k))) (sym es)
+    ∙ ap (λ (k : ℕ). s ∷ (all_extensions g s k ++ second_sides_from g x (minus starts s))) (sym ee)
+    ∙ ap (λ (k : ℕ). s ∷ (all_extensions g s e ++ second_sides_from g x k)) (sym er)
+    ∙ ap (λ xs. s ∷ (xs ++ second_sides_from g x rest)) (sym en)
+
+none_pass : (xs : List ℕ) → filter (in_set 0) xs ≡ []
+none_pass [] = refl
+none_pass (x ∷ xs) = cond-false (in_set 0 x) (x ∷ filter (in_set 0) xs) (filter (in_set 0) xs) (ne_eqb _ _ (empty_has x)) ∙ none_pass xs
+
+second_none : (g : JoinGraph) (x : ℕ) → second_sides_from g x 0 ≡ []
+unfolding second_sides_from
+second_none g x = ap (flat_map (λ k. grown_from g (union x (inter 0 (full (suc k)))) k)) (none_pass (descending g.n))
+
+pub second_end : (g : JoinGraph) (grown : List ℕ) (x starts : ℕ) → grown ≡ [] → starts ≡ 0 → grown ++ second_sides_from g x starts ≡ []
+second_end g grown x starts e es = ap (λ xs. xs ++ second_sides_from g x starts) e ∙ ap (second_sides_from g x) es ∙ second_none g x
+
+pub second_start : (g : JoinGraph) (grown : List ℕ) (a x starts : ℕ) → grown ≡ [] → x ≡ excluded a → starts ≡ neighbours_outside g a x → grown ++ second_sides_from g x starts ≡ second_sides g a
+unfolding second_sides second_sides_from
+second_start g grown a x from e ex es =
+    ap (λ xs. xs ++ second_sides_from g x from) e
+    ∙ ap (second_sides_from g x) es
+    ∙ ap (λ (k : ℕ). second_sides_from g k (neighbours_outside g a k)) ex
+
+pub starts_known : (g : JoinGraph) (a x starts : ℕ) → IsGraph g → starts ≡ neighbours_outside g a x → Within starts (full g.n)
+starts_known g a x from ok e r h = outside_in_graph g ok a x r (subst (λ (k : ℕ). Has k r) e h)
+
+pub greatest_room : (g : JoinGraph) (starts i : ℕ) → IsGraph g → Within starts (full g.n) → IsGreatest starts i → (i < g.n) × (i < N_MAX)
+greatest_room g starts i ok w m = (full_limit g.n i (w i m.0), omega (arith, full_limit g.n i (w i m.0), ok.few))
+
+pub rest_known : (g : JoinGraph) (starts s rest : ℕ) → Within starts (full g.n) → rest ≡ minus starts s → Within rest (full g.n)
+rest_known g starts s rest w e r h = w r (minus_left starts s r (subst (λ (k : ℕ). Has k r) e h))
+
+pub start_excluded : (x starts i s e : ℕ) → IsGreatest starts i → s ≡ single i → e ≡ union x starts → Within s e
+start_excluded x starts i s e m es ee r h =
+    subst (λ (k : ℕ). Has k r) (sym ee)
+    (union_right x starts r (subst (Has starts) (single_one i r (subst (λ (k : ℕ). Has k r) es h)) m.0))

@@ -1,0 +1,14 @@
+use Rattle.std.proofs.Common.{◌≡◌, length}
+use Rattle.enum_dpccp.specs.Sides.{first_left}
+use Rattle.enum_dpccp.specs.Left.{dpccp_left, DpccpFits}
+use Rattle.enum_dpccp.proofs.dpccp.DpCcpPairStream.next.Given as goal
+
+abbrev pub invariant-firsts : goal.invariant-firsts
+invariant-firsts g l =
+    record {
+      fits : DpccpFits l.self-inside.graph l.self-inside.firsts l.self-inside.seconds;
+      left : l.fn.self ≡ dpccp_left l.self-inside.graph l.self-inside.firsts l.self-inside.first l.self-inside.seconds;
+    }
+
+abbrev pub decreases-firsts : goal.decreases-firsts
+decreases-firsts g l = length (first_left l.self-inside.graph l.self-inside.firsts)

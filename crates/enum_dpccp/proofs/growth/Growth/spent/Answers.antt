@@ -1,0 +1,10 @@
+use Rattle.enum_dpccp.proofs.GrowthLaws.{spent_fits, spent_left}
+use Rattle.enum_dpccp.proofs.growth.Growth.spent.Goals as goal
+
+pub returns-clause-left : goal.returns-clause-left
+returns-clause-left c = spent_left c.args.graph.now c.spent.result c.new.result.items c.spent.ensures c.new.ensures
+
+pub returns-clause-fits : goal.returns-clause-fits
+returns-clause-fits c =
+    let fits = spent_fits c.args.graph.now c.spent.result c.new.result.items c.n-n.ensures.valid c.spent.ensures c.new.ensures in
+    record { calling = fits.0; giving = fits.1 }

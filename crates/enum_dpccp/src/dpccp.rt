@@ -1,0 +1,91 @@
+ghost use Rattle.std.specs.Prelude.{◌≡◌, refl, IsTrue, IsNone, List};
+ghost use Rattle.dpe_base.specs.declared.pair.Pair.{Pair};
+ghost use Rattle.pair_stream.specs.Orders.{Ordered, Complete};
+ghost use Rattle.pair_stream.specs.Streams.{is_over};
+ghost use Rattle.enum_dpccp.specs.Dpccp.{seq_dpccp};
+
+use crate::sides::{FirstSides, SecondSides};
+use dpe_base::{Pair, RelSet, Steps};
+use join_graph::Graph;
+use pair_stream::PairStream;
+use std::marker::Model;
+use std::sync::ledger::Ledger;
+
+/// The enumeration DPccp of Moerkotte and Neumann, "Analysis of Two Existing and One New Dynamic
+/// Programming Algorithm for the Generation of Optimal Bushy Join Trees without Cross Products", VLDB 2006.
+///
+/// It goes over the connected sets as first sides, and over the second sides of each, and comes to no set
+/// that is not connected. Their `EnumerateCmp` starts a second side with a neighbour and excludes the
+/// neighbours up to it; this is the recursion here too, as list functions and as a stream without recursion.
+#[derive(Drop)]
+pub struct DpCcp {
+    graph: Graph,
+    firsts: FirstSides,
+    first: RelSet,
+    seconds: SecondSides,
+}
+
+impl Model for DpCcp {
+    ghost use Rattle.std.specs.Prelude.{List};
+    ghost use Rattle.dpe_base.specs.declared.pair.Pair.{Pair};
+    ghost use Rattle.enum_dpccp.specs.Left.{dpccp_left, DpccpFits};
+
+    ghost Value = { List Pair };
+
+    ghost view = { λ s. dpccp_left s.graph s.firsts s.first s.seconds };
+
+    ghost invariant = { λ s. DpccpFits s.graph s.firsts s.seconds };
+}
+
+impl DpCcp {
+    pub fn over(graph: &Graph) -> DpCcp
+        ensures list { result ≡ seq_dpccp graph.now }
+        ensures complete { Complete graph.now result }
+        ensures ordered { Ordered result }
+
+        // At every later state too.
+        ensures probes { (s : List Pair) → ⟦<DpCcp as PairStream>⟧.probed s ≡ 0 }
+        ensures total { ⟦<DpCcp as PairStream>⟧.total result ≡ 0 }
+    {
+        let _n = graph.n();
+        DpCcp {
+            graph: *graph,
+            firsts: FirstSides::over(graph),
+            first: RelSet::empty(),
+            seconds: SecondSides::none(graph),
+        }
+    }
+}
+
+impl PairStream for DpCcp {
+    ghost use Rattle.pair_stream.specs.Streams.{is_over, over_is_empty};
+
+    ghost left = { λ s. s };
+
+    ghost ended = { λ s. is_over s };
+
+    ghost probed = { λ _. 0 };
+
+    ghost total = { λ _. 0 };
+
+    fn next<L: Ledger>(&mut self, _steps: &mut Steps<L>) -> Option<Pair> {
+        'firsts: loop {
+            if let Some(b) = self.seconds.next(&self.graph) {
+                return Some(Pair { a: self.first, b });
+            }
+            match self.firsts.next(&self.graph) {
+                None => return None,
+                Some(a) => {
+                    self.first = a;
+                    self.seconds.begin(&self.graph, a);
+                }
+            }
+        }
+    }
+
+    fn probes(&self) -> u64 {
+        0
+    }
+
+    ghost at_end = { λ s t. (over_is_empty s t, refl) };
+}

@@ -1,0 +1,9 @@
+//! DPccp: the pairs by their first sides, each with its second sides, in work that is in proportion to
+//! the number of pairs.
+#![tactic(auto)]
+
+mod dpccp;
+mod growth;
+mod sides;
+
+pub use dpccp::DpCcp;

@@ -1,0 +1,147 @@
+ghost use Rattle.std.specs.Prelude.{◌≡◌, ℕ, ◌≤◌, [], IfSome, MatchOption};
+ghost use Rattle.std.specs.Option.{IfNone};
+ghost use Rattle.dpe_base.specs.Sets.{Within, full};
+ghost use Rattle.join_graph.specs.Graphs.{Connected};
+ghost use Rattle.enum_dpccp.specs.Dpccp.{excluded, first_sides, second_sides};
+ghost use Rattle.enum_dpccp.specs.Growth.{growth_left, TakesSet};
+ghost use Rattle.enum_dpccp.specs.Sides.{IsGreatest, first_left, FirstFits, second_left, SecondFits};
+
+use crate::growth::{Growth, neighbours_outside};
+use dpe_base::RelSet;
+use join_graph::Graph;
+
+/// The connected sets as first sides: from each relation, the greatest first, those without a smaller one.
+#[derive(Drop)]
+pub struct FirstSides {
+    pub growth: Growth,
+    // The relations below it are still to come.
+    pub relations: u8,
+}
+
+/// The second sides of one first side: from each start, the greatest first, those without a smaller one.
+#[derive(Drop)]
+pub struct SecondSides {
+    pub growth: Growth,
+    // What no second side has.
+    pub excluded: RelSet,
+    // The starts that are still to come.
+    pub starts: RelSet,
+}
+
+// The greatest member.
+fn greatest(s: RelSet) -> Option<u8>
+    ensures { MatchOption result (s ≡ 0) (λ r. IsGreatest s r) }
+{
+    if s.bits() == 0 {
+        None
+    } else {
+        Some((31 - s.bits().leading_zeros()) as u8)
+    }
+}
+
+// What no second side of `a` has: the relations up to the least of `a`, and `a`.
+fn excluded(graph: &Graph, a: RelSet) -> RelSet
+    requires { Connected graph.now a }
+    ensures { result ≡ excluded a }
+{
+    let _n = graph.n();
+    match a.least() {
+        None => a,
+        Some(r) => RelSet::full(r + 1).union(a),
+    }
+}
+
+impl FirstSides {
+    pub fn over(graph: &Graph) -> FirstSides
+        ensures left { first_left graph.now result ≡ first_sides graph.now }
+        ensures fits { FirstFits graph.now result }
+    {
+        FirstSides {
+            growth: Growth::spent(graph),
+            relations: graph.n(),
+        }
+    }
+
+    /// The next first side.
+    pub fn next(&mut self, graph: &Graph) -> Option<RelSet>
+        requires { FirstFits graph.now self.old }
+        ensures set { TakesSet (first_left graph.now self.old) (first_left graph.now self.new) result }
+        ensures fits { FirstFits graph.now self.new }
+        ensures connected { IfSome result (λ a. Connected graph.now a) }
+    {
+        let _n = graph.n();
+        if let Some(s) = self.growth.next(graph) {
+            return Some(s);
+        }
+        if self.relations == 0 {
+            return None;
+        }
+        self.relations -= 1;
+        let first = RelSet::single(self.relations);
+        self.growth
+            .begin(graph, first, RelSet::full(self.relations + 1));
+        Some(first)
+    }
+}
+
+impl SecondSides {
+    /// There are none.
+    pub fn none(graph: &Graph) -> SecondSides
+        ensures left { second_left graph.now result ≡ [] }
+        ensures fits { SecondFits graph.now result }
+    {
+        SecondSides {
+            growth: Growth::spent(graph),
+            excluded: RelSet::empty(),
+            starts: RelSet::empty(),
+        }
+    }
+
+    /// Begins those of `a`, where none are left.
+    pub fn begin(&mut self, graph: &Graph, a: RelSet)
+        requires fits { SecondFits graph.now self.old }
+        requires spent { growth_left graph.now self.old.growth ≡ [] }
+        requires connected { Connected graph.now a }
+        ensures left { second_left graph.now self.new ≡ second_sides graph.now a }
+        ensures fits { SecondFits graph.now self.new }
+    {
+        let _n = graph.n();
+        self.excluded = excluded(graph, a);
+        self.starts = neighbours_outside(graph, a, self.excluded);
+    }
+
+    /// The next second side.
+    #[inline]
+    pub fn next(&mut self, graph: &Graph) -> Option<RelSet>
+        requires { SecondFits graph.now self.old }
+        ensures set { TakesSet (second_left graph.now self.old) (second_left graph.now self.new) result }
+        ensures fits { SecondFits graph.now self.new }
+        ensures spent { IfNone result (growth_left graph.now self.new.growth ≡ []) }
+    {
+        if let Some(s) = self.growth.next(graph) {
+            return Some(s);
+        }
+        self.next_start(graph)
+    }
+
+    // The next start, where the growth has nothing left.
+    fn next_start(&mut self, graph: &Graph) -> Option<RelSet>
+        requires fits { SecondFits graph.now self.old }
+        requires spent { growth_left graph.now self.old.growth ≡ [] }
+        requires empty { self.old.growth.calling.items ≡ [] }
+        ensures set { TakesSet (second_left graph.now self.old) (second_left graph.now self.new) result }
+        ensures fits { SecondFits graph.now self.new }
+        ensures spent { IfNone result (growth_left graph.now self.new.growth ≡ []) }
+    {
+        let _n = graph.n();
+        let Some(i) = greatest(self.starts) else {
+            return None;
+        };
+        let start = RelSet::single(i);
+        // Of the starts, those above this one have come already.
+        let excluded = self.excluded.union(self.starts);
+        self.starts = self.starts.minus(start);
+        self.growth.begin(graph, start, excluded);
+        Some(start)
+    }
+}

@@ -1,0 +1,10 @@
+use Rattle.std.proofs.lemmas.Bool.{iff_false}
+use Rattle.enum_dpsize.proofs.RowLaws.{not_joinable, joinable_by}
+use Rattle.enum_dpsize.proofs.pairs.is_joinable.Goals as goal
+
+pub returns-then-meets : goal.returns-then-meets
+returns-then-meets c = not_joinable c.args.graph.now c.args.x c.args.y (c.meets.ensures.0 c.if-meets.true)
+
+pub returns : goal.returns
+returns c =
+    joinable_by c.args.graph.now c.args.x c.args.y c.joined.result c.n-n.ensures.valid (iff_false c.meets.ensures c.if-meets.false) c.joined.ensures

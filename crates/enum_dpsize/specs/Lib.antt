@@ -1,0 +1,2 @@
+pub mod Dpsize
+pub mod Dpsva

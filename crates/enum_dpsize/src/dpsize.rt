@@ -1,0 +1,152 @@
+ghost use Rattle.std.specs.Prelude.{refl, IsTrue, IsNone, ◌≡◌, ℕ, ◌≤◌, ◌<◌, ◌+◌, ◌-◌, List, length, drop, All, Bool, true, ◌^◌};
+ghost use Rattle.dpe_base.specs.declared.pair.Pair.{Pair};
+ghost use Rattle.dpe_base.specs.Sets.{Within, full};
+ghost use Rattle.join_graph.specs.Graphs.{IsGraph, Connected};
+ghost use Rattle.pair_stream.specs.Orders.{Ordered, Complete};
+ghost use Rattle.pair_stream.specs.Parts.{parts_of};
+ghost use Rattle.pair_stream.specs.Streams.{Takes, is_over};
+ghost use Rattle.enum_dpsize.specs.Dpsize.{pairs_with, rows_from, seq_dpsize};
+
+use crate::pairs::{is_joinable, pair_by_least};
+use crate::sizes::{next_sizes, start_at};
+use dpe_base::{Pair, RelSet, Steps};
+use join_graph::Graph;
+use pair_stream::{PairStream, Parts};
+use std::marker::Model;
+use std::sync::ledger::Ledger;
+
+/// The enumeration by sizes, DPsize: the size of the union ascends, then that of the smaller side, and for each two
+/// sizes it goes over all pairs of connected sets in list order.
+///
+/// Its name is that of Moerkotte and Neumann, "Analysis of Two Existing and One New Dynamic Programming Algorithm for
+/// the Generation of Optimal Bushy Join Trees without Cross Products", VLDB 2006.
+#[derive(Drop)]
+pub struct DpSize<'a> {
+    graph: Graph,
+    parts: &'a Parts,
+    size: u32,
+    small: u32,
+    row: usize,
+    next: usize,
+}
+
+impl<'a> Model for DpSize<'a> {
+    ghost use Rattle.std.specs.Prelude.{List, ◌≡◌};
+    ghost use Rattle.dpe_base.specs.declared.pair.Pair.{Pair};
+    ghost use Rattle.enum_dpsize.specs.Dpsize.{dpsize_left, IsDpsizeState};
+
+    ghost Value = { List Pair };
+
+    ghost view = { λ s. dpsize_left s.graph s.size s.small s.row s.next };
+
+    ghost invariant = { λ s. IsDpsizeState s.graph s.parts.now s.size s.small };
+}
+
+// The next pair of `x` with one of the sets from `next` on.
+fn next_in_row(graph: &Graph, x: RelSet, ys: &[RelSet], next: &mut usize) -> Option<Pair>
+    requires x { Connected graph.now x }
+    requires ys { All (Connected graph.now) ys.now }
+    ensures { Takes (pairs_with graph.now (drop next.old ys.now) x) (pairs_with graph.now (drop next.new ys.now) x) result }
+{
+    'row: while *next < ys.len() {
+        let y = ys[*next];
+        *next += 1;
+        if is_joinable(graph, x, y) {
+            return Some(pair_by_least(graph, x, y));
+        }
+    }
+    None
+}
+
+// The next pair of the rows.
+fn next_in_rows(
+    graph: &Graph,
+    xs: &[RelSet],
+    ys: &[RelSet],
+    same: bool,
+    row: &mut usize,
+    next: &mut usize,
+) -> Option<Pair>
+    requires xs { All (Connected graph.now) xs.now }
+    requires ys { All (Connected graph.now) ys.now }
+    requires same { same ≡ true → xs.now ≡ ys.now }
+    ensures { Takes (rows_from graph.now ys.now same (drop row.old xs.now) next.old) (rows_from graph.now ys.now same (drop row.new xs.now) next.new) result }
+{
+    'rows: while *row < xs.len() {
+        if let Some(p) = next_in_row(graph, xs[*row], ys, next) {
+            return Some(p);
+        }
+        *row += 1;
+        *next = start_at(same, *row);
+    }
+    None
+}
+
+impl<'a> DpSize<'a> {
+    /// The stream of all pairs of the graph whose parts these are. It takes no memory.
+    pub fn over(graph: &Graph, parts: &'a Parts) -> DpSize<'a>
+        requires { parts.now ≡ parts_of graph.now }
+        ensures list { result ≡ seq_dpsize graph.now }
+        ensures complete { Complete graph.now result }
+        ensures ordered { Ordered result }
+
+        // At every later state too.
+        ensures probes { (s : List Pair) → ⟦<DpSize<'a> as PairStream>⟧.probed s ≡ 0 }
+        ensures total { ⟦<DpSize<'a> as PairStream>⟧.total result ≡ 0 }
+    {
+        let n = graph.n();
+        DpSize {
+            graph: *graph,
+            parts,
+            size: 2,
+            small: 1,
+            row: if n == 1 { parts.part(1).len() } else { 0 },
+            next: 1,
+        }
+    }
+}
+
+impl<'a> PairStream for DpSize<'a> {
+    ghost use Rattle.pair_stream.specs.Streams.{is_over, over_is_empty};
+
+    ghost left = { λ s. s };
+
+    ghost ended = { λ s. is_over s };
+
+    ghost probed = { λ _. 0 };
+
+    ghost total = { λ _. 0 };
+
+    fn next<L: Ledger>(&mut self, _steps: &mut Steps<L>) -> Option<Pair> {
+        'sizes: loop {
+            let xs = self.parts.part(self.small);
+            let ys = self.parts.part(self.size - self.small);
+            let same = self.small == self.size - self.small;
+            if let Some(p) = next_in_rows(
+                &self.graph,
+                xs,
+                ys,
+                same,
+                &mut self.row,
+                &mut self.next,
+            ) {
+                return Some(p);
+            }
+            match next_sizes(self.size, self.small, self.graph.n() as u32) {
+                None => return None,
+                Some((size, small)) => {
+                    self.size = size;
+                    self.small = small;
+                    self.row = 0;
+                    self.next = start_at(small == size - small, 0);
+                }
+            }
+        }
+    }
+
+    fn probes(&self) -> u64 {
+        0
+    }
+
+    ghost at_end = { λ s t. (over_is_empty s t, refl) };
+}

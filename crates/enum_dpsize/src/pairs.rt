@@ -1,0 +1,46 @@
+ghost use Rattle.std.specs.Prelude.{◌≡◌};
+ghost use Rattle.join_graph.specs.Graphs.{Connected};
+ghost use Rattle.pair_stream.specs.Subsets.{least};
+ghost use Rattle.enum_dpsize.specs.Dpsize.{is_joinable, pair_by_least};
+
+use dpe_base::{Pair, RelSet};
+use join_graph::Graph;
+
+// Whether `x` and `y` are disjoint and joined.
+pub fn is_joinable(graph: &Graph, x: RelSet, y: RelSet) -> bool
+    requires x { Connected graph.now x }
+    requires y { Connected graph.now y }
+    ensures { result ≡ is_joinable graph.now x y }
+{
+    let _n = graph.n();
+    if x.meets(y) {
+        return false;
+    }
+    graph.joined(x, y)
+}
+
+// The least relation of a connected set.
+pub fn least(graph: &Graph, x: RelSet) -> u8
+    requires { Connected graph.now x }
+    ensures { result ≡ least x }
+{
+    let _n = graph.n();
+    match x.least() {
+        None => 0,
+        Some(r) => r,
+    }
+}
+
+// The pair of two connected sets.
+#[tactic(auto, unfolding(crate::specs::Dpsize::pair_by_least))]
+pub fn pair_by_least(graph: &Graph, x: RelSet, y: RelSet) -> Pair
+    requires x { Connected graph.now x }
+    requires y { Connected graph.now y }
+    ensures { result ≡ pair_by_least x y }
+{
+    if least(graph, x) < least(graph, y) {
+        Pair { a: x, b: y }
+    } else {
+        Pair { a: y, b: x }
+    }
+}

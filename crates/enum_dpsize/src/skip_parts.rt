@@ -1,0 +1,64 @@
+ghost use Rattle.std.specs.Prelude.{◌≡◌, ◌≤◌, ◌-◌, ℕ, List, length, IfOk, slice_index_or};
+ghost use Rattle.enum_dpsize.specs.Dpsva.{AreParts};
+
+use dpe_base::RelSet;
+use pair_stream::Parts;
+use skip_vector::SkipPart;
+use std::alloc::{AllocError, Global};
+use std::marker::Model;
+
+/// The connected sets of a join graph by size: each part as a plain list and with skip vectors.
+#[derive(Drop)]
+pub struct SkipParts {
+    lists: Vec<Vec<RelSet>>,
+    skips: Vec<SkipPart>,
+}
+
+impl Model for SkipParts {
+    ghost use Rattle.std.specs.Prelude.{◌≡◌, ℕ, List, map};
+
+    ghost Value = { List (List ℕ) };
+
+    ghost view = { λ p. map (λ v. v.items) p.lists.items };
+
+    ghost invariant = { λ p. p.skips.items ≡ map (λ v. v.items) p.lists.items };
+}
+
+impl SkipParts {
+    /// The parts as they are, with the skip vectors of each.
+    ///
+    /// Fails where there is no memory.
+    pub fn make(alloc: Global, parts: &Parts) -> Result<SkipParts, AllocError>
+        requires { AreParts parts.now }
+        ensures { IfOk result (λ p. p ≡ parts.now) }
+    {
+        // a relation alone is connected
+        let n = parts.part(1).len();
+        let mut lists = Vec::new(alloc);
+        let mut skips = Vec::new(alloc);
+        for k in 0..n {
+            let part = parts.part(k as u32 + 1);
+            let list = Vec::from_slice(alloc, part)?;
+            let skip = SkipPart::make(alloc, part)?;
+            lists.push(list)?;
+            skips.push(skip)?;
+        }
+        Ok(SkipParts { lists, skips })
+    }
+
+    /// The connected sets of that many relations as a plain list.
+    pub fn list(&self, size: u32) -> &[RelSet]
+        requires { (1 ≤ size) × (size ≤ length self.now) }
+        ensures { result.now ≡ slice_index_or self.now (size - 1) result.now }
+    {
+        self.lists[size as usize - 1].as_slice()
+    }
+
+    /// The connected sets of that many relations with their skip vectors.
+    pub fn skips(&self, size: u32) -> &SkipPart
+        requires { (1 ≤ size) × (size ≤ length self.now) }
+        ensures { result.now ≡ slice_index_or self.now (size - 1) result.now }
+    {
+        &self.skips[size as usize - 1]
+    }
+}

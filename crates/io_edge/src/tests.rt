@@ -1,0 +1,71 @@
+use crate::{MemSink, MemSource, ReadEnd, StdSink, StdSource, WriteFault, read_all, write_all};
+use std::test::Fail;
+
+const TEXT: &[u8] = b"abcdef";
+
+#[test]
+fn a_source_is_read_to_its_end_or_names_the_cause(rt: HostRuntime) -> Result<(), Fail> {
+    let alloc = rt.alloc();
+    let cases: [(usize, u64, usize, Option<ReadEnd>); 6] = [
+        (4, 3, 6, None),
+        (64, 2, 4096, None),
+        (4, 9, 5, Some(ReadEnd::TooLong)),
+        (4, 1, 6, Some(ReadEnd::Fault)),
+        (4, 2, 6, Some(ReadEnd::Fault)),
+        (4, 1, 3, Some(ReadEnd::TooLong)),
+    ];
+    for (piece, fails, limit, want) in cases {
+        let bytes = TEXT.to_vec(alloc)?;
+        assert!(rt; piece >= 1 && limit < 4097);
+        let mut source = MemSource::new(bytes, piece, [fails].to_vec(alloc)?);
+        match read_all(alloc, &mut source, limit) {
+            Ok(read) => {
+                assert_eq!(rt; want, None);
+                assert_eq!(rt; read.as_slice(), TEXT);
+            }
+            Err(end) => assert_eq!(rt;
+                want,
+                Some(end),
+                "piece {piece}, failing call {fails}, limit {limit}"
+            ),
+        }
+    }
+    Ok(())
+}
+
+#[test]
+fn a_sink_takes_all_or_a_proper_prefix(rt: HostRuntime) -> Result<(), Fail> {
+    let alloc = rt.alloc();
+    let cases: [(usize, usize, u64, Result<(), WriteFault>, usize); 5] = [
+        (6, 4, 9, Ok(()), 6),
+        (64, 64, 1, Ok(()), 6),
+        (5, 4, 9, Err(WriteFault), 5),
+        (6, 4, 1, Err(WriteFault), 4),
+        (64, 64, 0, Err(WriteFault), 0),
+    ];
+    for (room, piece, fails, want, count) in cases {
+        assert!(rt; piece >= 1 && count <= 6);
+        let mut sink = MemSink::new(alloc, room, piece, [fails].to_vec(alloc)?)?;
+        assert_eq!(rt;
+            write_all(&mut sink, TEXT),
+            want,
+            "room {room}, piece {piece}, failing call {fails}"
+        );
+        assert_eq!(rt;
+            sink.written(),
+            &TEXT[..count],
+            "room {room}, piece {piece}, failing call {fails}"
+        );
+    }
+    Ok(())
+}
+
+#[test]
+fn the_streams_of_std_are_a_source_and_a_sink(rt: HostRuntime) -> Result<(), Fail> {
+    let mut source = StdSource::over(TEXT);
+    let read = read_all(rt.alloc(), &mut source, 6).map_err(|_| "not read")?;
+    assert_eq!(rt; read.as_slice(), TEXT);
+    let mut sink = StdSink::over(rt.stdout());
+    assert_eq!(rt; write_all(&mut sink, read.as_slice()), Ok(()));
+    Ok(())
+}

@@ -1,0 +1,29 @@
+-- Each connected set has a best word and one plan.
+use Rattle.std.proofs.Common.{ℕ, suc, arith, List}
+use Rattle.dpe_base.specs.declared.pair.Pair.{Pair}
+use Rattle.dpe_base.specs.Queries.{JoinQuery, IsQuery}
+use Rattle.join_graph.specs.Graphs.{Connected, graph_of}
+use Rattle.join_tree.specs.Laws.{AllPairs, ConnectedSetsHaveBestWords, ConnectedSetsHaveOnePlan}
+use Rattle.join_tree.specs.Trees.{JoinTree, Least, Best, Plan}
+use Rattle.join_tree.proofs.TreeLaws.{connected_built, all_pairs_build}
+use Rattle.join_tree.proofs.Substructure.{least_exists}
+use Rattle.join_tree.proofs.BestLaws.{least_best, best_same, best_connected}
+use Rattle.join_tree.proofs.OnePlan.{plan_same}
+use Rattle.join_tree.proofs.PlanLaws.{plan_exists}
+use Rattle.join_tree.proofs.AllPairs.{all_pairs}
+
+-- a list of all pairs gives each connected set a least word, which is its best word
+pub connected_best : (kind : ℕ) (q : JoinQuery) (s : ℕ) → IsQuery q → Connected (graph_of q) s → (w : ℕ) × Best kind q s w
+connected_best kind q s ok c =
+    let list : (pairs : List Pair) × AllPairs q pairs = all_pairs q ok in
+    let least : (w : ℕ) × Least kind q list.0 s w =
+    least_exists kind q list.0 ok (all_pairs_build q list.0 ok list.1) (suc s) s (omega arith) (c, connected_built q list.0 ok list.1 s c) in
+    (least.0, (least_best kind q list.0 ok list.1 s least.0).0 least.1)
+
+pub connected_sets_have_best_words : ConnectedSetsHaveBestWords
+connected_sets_have_best_words kind q s ok = ((connected_best kind q s ok, λ b. best_connected kind q s b.0 b.1), best_same kind q s)
+
+pub connected_sets_have_one_plan : ConnectedSetsHaveOnePlan
+connected_sets_have_one_plan kind q s ok c =
+    let plan : (t : JoinTree) × Plan kind q s t = plan_exists kind q s ok (λ x cx within. connected_best kind q x ok cx) c in
+    (plan.0, plan.1, λ u p. plan_same kind q s u plan.0 ok p plan.1)

@@ -1,0 +1,102 @@
+use crate::Tree;
+use cost_model::{CostModel, Ops, Word};
+use dpe_base::{Pred, Query, Rel};
+use join_graph::Graph;
+use std::alloc::{AllocError, Global};
+use std::test::Fail;
+
+const MERGE: u8 = 1;
+
+// A relation of so many rows that no filter narrows.
+fn rel(rows: u64) -> Rel {
+    Rel {
+        rows,
+        num: 1,
+        den: 1,
+    }
+}
+
+// A predicate that keeps one row in `den`.
+fn pred(low: u8, high: u8, den: u64) -> Pred {
+    Pred {
+        low,
+        high,
+        num: 1,
+        den,
+    }
+}
+
+fn join(alloc: Global, op: u8, left: Tree, right: Tree) -> Result<Tree, AllocError> {
+    Ok(Tree::Join {
+        op,
+        left: Box::new(alloc, left)?,
+        right: Box::new(alloc, right)?,
+    })
+}
+
+// The word of a legal tree, where it has one.
+fn word(query: &Query, tree: &Tree) -> Option<u64> {
+    if tree.legal(&Ops, &Graph::of(query)) {
+        tree.root_word(&Ops, query).map(Word::bits)
+    } else {
+        None
+    }
+}
+
+#[test]
+fn words_of_two_relations(rt: HostRuntime) -> Result<(), Fail> {
+    let alloc = rt.alloc();
+    let rels = vec![in alloc; rel(100), rel(1000)]?;
+    let query = Query::new(rels, vec![in alloc; pred(0, 1, 1000)]?)?;
+    assert_eq!(rt; word(&query, &Tree::Leaf(0)), Some(196_609));
+    assert_eq!(rt;
+        word(&query, &join(alloc, 0, Tree::Leaf(0), Tree::Leaf(1))?),
+        Some(340_787_201)
+    );
+    assert_eq!(rt;
+        word(&query, &join(alloc, 0, Tree::Leaf(1), Tree::Leaf(0))?),
+        Some(576_716_802)
+    );
+    let rels = vec![in alloc; rel(4), rel(2)]?;
+    let tie = Query::new(rels, vec![in alloc; pred(0, 1, 1)]?)?;
+    assert_eq!(rt;
+        word(&tie, &join(alloc, 0, Tree::Leaf(1), Tree::Leaf(0))?),
+        Some(4_194_306)
+    );
+    // a merge of the most rows costs 83 times as many, which has no word
+    let rels = vec![in alloc; rel(1 << 40), rel(1 << 40)]?;
+    let large = Query::new(rels, vec![in alloc; pred(0, 1, 1)]?)?;
+    let merge = join(alloc, MERGE, Tree::Leaf(0), Tree::Leaf(1))?;
+    assert!(rt; merge.legal(&Ops, &Graph::of(&large)));
+    assert_eq!(rt; merge.cost(&Ops, &large), 91_259_465_105_408);
+    assert_eq!(rt; word(&large, &merge), None);
+    Ok(())
+}
+
+#[test]
+fn legal_trees_of_a_chain(rt: HostRuntime) -> Result<(), Fail> {
+    let alloc = rt.alloc();
+    let rels = vec![in alloc; rel(10), rel(10), rel(10), rel(10)]?;
+    let preds = vec![in alloc; pred(0, 1, 10), pred(1, 2, 10), pred(2, 3, 10)]?;
+    let query = Query::new(rels, preds)?;
+    let leaf = |r: u8| Tree::Leaf(r);
+    assert_eq!(rt; word(&query, &leaf(3)), Some(196_616));
+    assert_eq!(rt; word(&query, &leaf(4)), None);
+    // the same cost in both shapes, and the lesser left set
+    let last = join(alloc, 0, leaf(1), leaf(2))?;
+    assert_eq!(rt;
+        word(&query, &join(alloc, 0, leaf(0), last)?),
+        Some(20_971_521)
+    );
+    let first = join(alloc, 0, leaf(0), leaf(1))?;
+    assert_eq!(rt;
+        word(&query, &join(alloc, 0, first, leaf(2))?),
+        Some(20_971_523)
+    );
+    // no operator, no predicate between the sides, and a relation in both
+    assert_eq!(rt; word(&query, &join(alloc, 3, leaf(0), leaf(1))?), None);
+    assert_eq!(rt; word(&query, &join(alloc, 0, leaf(0), leaf(2))?), None);
+    let twice = join(alloc, 0, leaf(0), leaf(1))?;
+    assert_eq!(rt; word(&query, &join(alloc, 0, twice, leaf(1))?), None);
+    Ok(())
+}

@@ -1,0 +1,104 @@
+-- Prefixes of the ascending lists of sets, and the places of a part that a scan by skips looks at.
+use Rattle.std.specs.Prelude.{◌≡◌, ◌≢◌, ◌↔◌, ◌⊎◌, IsTrue, ℕ, zero, suc, ◌+◌, ◌-◌, ◌<◌, ◌≤◌, Bool, true, false, ◌&&◌, ◌||◌, ◌==◌, if◌then◌else◌, List, [], ◌∷◌, length, take, slice_index, get_or, Vec}
+use Rattle.std.specs.declared.alloc.Global.{Global}
+use Rattle.std.specs.declared.cmp.Ordering.TheVariants.{Less}
+use Rattle.dpe_base.specs.Sets.{member, inter, size, members, list_order}
+
+-- the first p relations of a set
+abbrev pub first_relations : ℕ → ℕ → List ℕ
+first_relations p s = take p (members s)
+
+-- a list up to its first member of x and with it
+unfoldable pub up_to : ℕ → List ℕ → List ℕ
+up_to x [] = []
+up_to x (r ∷ rs) = if member x r == 1 then r ∷ [] else r ∷ up_to x rs
+
+-- the blocking prefix of s: the shortest one whose last relation is in x
+unfoldable pub blocking_prefix : ℕ → ℕ → List ℕ
+blocking_prefix x s = up_to x (members s)
+
+-- no relation is in both
+abbrev pub is_free : ℕ → ℕ → Bool
+is_free x s = inter s x == 0
+
+-- a part: sets of one size of at least 1, ascending in list order
+pub record IsPart (part : List ℕ) : Type 0 where
+  pub some : (i : ℕ) → i < length part → 1 ≤ size (slice_index part i)
+  pub one_size : (i j : ℕ) → i < length part → j < length part → size (slice_index part i) ≡ size (slice_index part j)
+  pub ascends : (i j : ℕ) → i < j → j < length part → list_order (slice_index part i) (slice_index part j) ≡ Less
+
+-- a is the least place above i whose entry has other first p relations, or the length of the part
+pub record IsAfter (part : List ℕ) (i p a : ℕ) : Type 0 where
+  pub above : i < a
+  pub within : a ≤ length part
+  pub same : (j : ℕ) → i < j → j < a → first_relations p (slice_index part j) ≡ first_relations p (slice_index part i)
+  pub other : a < length part → first_relations p (slice_index part a) ≢ first_relations p (slice_index part i)
+
+unfoldable pub same_list : List ℕ → List ℕ → Bool
+same_list [] [] = true
+same_list [] (b ∷ bs) = false
+same_list (a ∷ as') [] = false
+same_list (a ∷ as') (b ∷ bs) = a == b && same_list as' bs
+
+-- whether one of the n places from `from` on has the blocking prefix p
+unfoldable pub has_blocking_prefix : List ℕ → ℕ → List ℕ → ℕ → ℕ → Bool
+has_blocking_prefix part x p from zero = false
+has_blocking_prefix part x p from (suc n) = has_blocking_prefix part x p from n || same_list (blocking_prefix x (slice_index part (from + n))) p
+
+-- whether the place is probed: its entry is free, or the first one from `from` on with its blocking prefix
+unfoldable pub is_probed : List ℕ → ℕ → ℕ → ℕ → Bool
+is_probed part from x n =
+    is_free x (slice_index part (from + n))
+    || (if has_blocking_prefix part x (blocking_prefix x (slice_index part (from + n))) from n then false else true)
+
+-- how many of the n places from `from` on are probed
+unfoldable pub probes : List ℕ → ℕ → ℕ → ℕ → ℕ
+probes part from x zero = 0
+probes part from x (suc n) = probes part from x n + (if is_probed part from x n then 1 else 0)
+
+-- the places after each entry's prefix of length p
+pub record IsColumn (part : List ℕ) (p : ℕ) (column : List ℕ) : Type 0 where
+  pub sized : length column ≡ length part
+  pub each : (i : ℕ) → i < length part → IsAfter part i p (slice_index column i)
+
+-- what a part with skip vectors keeps
+pub record IsSkipPart (part : List ℕ) (columns : List (Vec ℕ Global)) : Type 0 where
+  pub is_part : IsPart part
+  pub wide : 0 < length part → length columns ≡ size (slice_index part 0)
+  pub each : (p : ℕ) (d : Vec ℕ Global) → p < length columns → IsColumn part (p + 1) (get_or columns p d).items
+
+-- no entry from `from` on and before `upto` is disjoint from x
+abbrev pub NoneFree : List ℕ → ℕ → ℕ → ℕ → Type 0
+NoneFree part x from upto = (j : ℕ) → from ≤ j → j < upto → inter (slice_index part j) x ≢ 0
+
+-- the first entry from `from` on that is disjoint from x
+pub record IsFirstFree (part : List ℕ) (x from place entry : ℕ) : Type 0 where
+  pub from_on : from ≤ place
+  pub within : place < length part
+  pub entry_is : entry ≡ slice_index part place
+  pub free : inter entry x ≡ 0
+  pub first : NoneFree part x from place
+
+-- how many of the entries from `from` on are probed
+abbrev pub probes_from : List ℕ → ℕ → ℕ → ℕ
+probes_from part from x = probes part from x (length part - from)
+
+-- the sum over the relations' sets of one list, each against the whole part
+unfoldable pub probes_of : List ℕ → List ℕ → ℕ
+probes_of [] part = 0
+probes_of (x ∷ xs) part = probes_from part 0 x + probes_of xs part
+
+-- the sum over the first n entries of a part, each against the entries after it
+unfoldable pub probes_within : List ℕ → ℕ → ℕ
+probes_within part zero = 0
+probes_within part (suc n) = probes_within part n + probes_from part (suc n) (slice_index part n)
+
+-- the entry n places after `from` is disjoint from x, or none before it has its blocking prefix
+abbrev pub IsProbed : List ℕ → ℕ → ℕ → ℕ → Type 0
+IsProbed part from x n =
+    (inter (slice_index part (from + n)) x ≡ 0)
+    ⊎ ((m : ℕ) → m < n → blocking_prefix x (slice_index part (from + m)) ≢ blocking_prefix x (slice_index part (from + n)))
+
+-- the places that are counted as probed are those that are probed
+abbrev pub ProbedPlaces : Type 0
+ProbedPlaces = (part : List ℕ) (from x n : ℕ) → IsTrue (is_probed part from x n) ↔ IsProbed part from x n
