@@ -1,11 +1,11 @@
 -- What every sample keeps.
-use Rattle.std.proofs.Common.{◌≡◌, ◌≢◌, ◌∙◌, ℕ, zero, suc, ◌+◌, ◌-◌, ◌%◌, ◌<◌, ◌≤◌, ◌==◌, Bool, true, false, if◌then◌else◌, List, [], ◌∷◌, ◌++◌, length, Option, Some, None, refl, sym, ap, subst, arith, length-append}
+use Rattle.std.proofs.Common.{◌≡◌, ◌≢◌, ℕ, zero, suc, ◌+◌, ◌-◌, ◌<◌, ◌≤◌, Bool, true, false, if◌then◌else◌, List, [], ◌∷◌, ◌++◌, length, Option, Some, None, refl, sym, ap, subst, arith, length-append}
 use Rattle.std.proofs.Math.Dec.{eqb}
 use Rattle.std.proofs.lemmas.Bool.{eqb-false}
 use Rattle.workload_gen.specs.declared.sample.Table.{Table}
 use Rattle.workload_gen.specs.declared.sample.Relation.{Relation}
 use Rattle.workload_gen.specs.declared.sample.Join.{Join}
-use Rattle.workload_gen.specs.Draws.{State, Drawing, draw_each, extra_join, extra_joins, joins_tried, pick, give, pick_from, present, ◌>>=◌, query, relation, sample, sample_of, seeded, table, tree_join}
+use Rattle.workload_gen.specs.Draws.{State, Drawing, draw_each, extra_join, extra_joins, joins_tried, pick, give, pick_from, present, ◌>>=◌, query, relation, sample, table, tree_join}
 use Rattle.workload_gen.specs.Sample.{Sample, SampleQuery}
 
 -- ---- lists that are drawn
