@@ -1,0 +1,6 @@
+pub mod GroupLaws
+mod Placing
+mod Counts
+mod Beginning
+pub mod Weights
+pub mod RunLaws

@@ -1,0 +1,17 @@
+//! A buffer that takes the next run of a stream of pairs and gives its pairs by the size of their unions, so that
+//! workers find the sides of a pair done before they come to it.
+#![tactic(auto)]
+
+mod buffer;
+mod grouping;
+pub mod laws;
+#[cfg(test)]
+mod tests;
+
+pub use buffer::Buffer;
+
+/// How many sizes a set of relations can have: 0 to 32.
+pub const SIZES: usize = 33;
+
+/// The most pairs that a buffer has room for.
+pub const ROOM_MAX: u32 = 65536;
