@@ -14,7 +14,9 @@ use join_graph::Graph;
 /// A join tree.
 #[derive(Debug, Drop)]
 pub enum Tree {
+    /// A relation.
     Leaf(u8),
+    /// A join by an operator of the cost model.
     Join {
         op: u8,
         left: Box<Tree>,
