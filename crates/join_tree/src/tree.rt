@@ -1,5 +1,5 @@
-ghost use Rattle.std.specs.Prelude.{◌≡◌, ℕ, ◌<◌, ◌≤◌, ◌^◌, ◌↔◌, IsTrue, MatchOption};
-ghost use Rattle.dpe_base.specs.Sets.{Has, union};
+ghost use Rattle.std.specs.Prelude.{◌≡◌, ◌<◌, ◌≤◌, ◌^◌, ◌↔◌, IsTrue, MatchOption};
+ghost use Rattle.dpe_base.specs.Sets.{union};
 ghost use Rattle.join_graph.specs.Graphs.{Connected, graph_of};
 ghost use Rattle.card_scaled.specs.Cards.{rows};
 ghost use Rattle.cost_model.specs.Costs.{operators, join_cost};
@@ -80,6 +80,7 @@ impl Tree {
         requires { Legal M.KIND (graph_of query.now) (tree_of self.now) }
         ensures { result ≡ cost M.KIND query.now (tree_of self.now) }
     {
+        // its clause says what every query keeps
         let _n = query.n();
         match self {
             Tree::Leaf(_) => 0,
@@ -101,6 +102,7 @@ impl Tree {
             (COST_LIMIT ≤ total)
             (λ w. (total < COST_LIMIT) × (w ≡ root_word M.KIND query.now tree)) }
     {
+        // its clause says what every query keeps
         let _n = query.n();
         let cost = self.cost(model, query);
         match self {
