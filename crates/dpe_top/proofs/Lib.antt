@@ -1,0 +1,2 @@
+pub mod PairCount
+pub mod Planning
