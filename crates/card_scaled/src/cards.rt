@@ -1,5 +1,5 @@
 ghost use Rattle.std.specs.Prelude.{◌≡◌, ◌≢◌, ◌≤◌, ◌<◌, ◌^◌, ◌+◌, ◌*◌, ℕ, length, get_or, OnOk, IfOk, slice_index};
-ghost use Rattle.dpe_base.specs.Queries.{relations, IsQuery};
+ghost use Rattle.dpe_base.specs.Queries.{JoinQuery, relations, IsQuery};
 ghost use Rattle.dpe_base.specs.Sets.{Has, Within, full, member};
 ghost use Rattle.card_scaled.specs.Scaled.{IsNear, one, mul, frac, rounded};
 ghost use Rattle.card_scaled.specs.Cards.{base_of, times_pred, times_base, with_relation, card, rows, IsCardTable};
@@ -51,7 +51,9 @@ fn with_relation(query: &Query, s: RelSet, c: Scaled, r: u8) -> Scaled
     product
 }
 
-/// The number of rows of the set, by the whole fold.
+/// The number of rows that the join of the relations of `s` has, by going over all of them and all predicates.
+///
+/// At least 1 and at most `ROW_CAP`.
 pub fn rows_once(query: &Query, s: RelSet) -> u64
     requires some { s ≢ 0 }
     requires within { Within s (full (relations query.now)) }
@@ -66,18 +68,23 @@ pub fn rows_once(query: &Query, s: RelSet) -> u64
     product.rows()
 }
 
-/// The number of rows of each set of a query's relations, which contracts see as the list by the sets' numbers.
+/// The number of rows of each set of a query's relations.
 #[derive(Drop)]
 pub struct CardTable {
+    n: u8,
     rows: Vec<u64>,
 }
 
 impl Model for CardTable {
-    ghost use Rattle.std.specs.Prelude.{List, ℕ};
+    ghost use Rattle.std.specs.Prelude.{◌≡◌, ◌≤◌, ◌^◌, length};
+    ghost use Rattle.dpe_base.specs.declared.TheConstants.{N_MAX};
+    ghost use Rattle.card_scaled.specs.Cards.{RowTable};
 
-    ghost Value = { List ℕ };
+    ghost Value = { RowTable };
 
-    ghost view = { λ t. t.rows.items };
+    ghost view = { λ t. record { n = t.n; rows = t.rows.items } };
+
+    ghost invariant = { λ t. (t.n ≤ N_MAX) × (length t.rows.items ≡ 2 ^ t.n) };
 }
 
 // Multiplies the sets from `half` on that the predicate leads in, up to their greatest relation `r`.
@@ -172,19 +179,23 @@ fn round_all(alloc: Global, cards: &[Scaled]) -> Result<Vec<u64>, AllocError>
 }
 
 impl CardTable {
-    /// Each set from the set without its greatest relation.
+    /// The rows of all sets of the query's relations, each from the set without its greatest relation.
+    ///
+    /// Fails where there is no memory.
     pub fn make(alloc: Global, query: &Query) -> Result<CardTable, AllocError>
         ensures { IfOk result (λ t. IsCardTable query.now t) }
     {
         let cards = all_cards(alloc, query)?;
         let rows = round_all(alloc, &cards)?;
-        Ok(CardTable { rows })
+        Ok(CardTable { n: query.n(), rows })
     }
 
-    /// The number of rows of the set.
+    /// The number of rows of the set, the same as by [`rows_once`].
     pub fn rows(&self, s: RelSet) -> u64
-        requires { s < length self.now }
-        ensures { result ≡ slice_index self.now s }
+        requires some { s ≢ 0 }
+        requires within { Within s (full self.now.n) }
+        ensures entry { result ≡ slice_index self.now.rows s }
+        ensures cardinality { (q : JoinQuery) → IsCardTable q self.now → result ≡ rows q s }
     {
         self.rows[s.bits() as usize]
     }

@@ -3,6 +3,8 @@
 
 mod cards;
 mod scaled;
+#[cfg(test)]
+mod tests;
 
 pub use cards::{CardTable, rows_once};
 pub use scaled::Scaled;

@@ -3,7 +3,7 @@ ghost use Rattle.std.specs.Prelude.{◌≡◌, ◌≢◌, ℕ, ◌+◌, ◌≤�
 ghost use Rattle.std.specs.Option.{IfNone};
 ghost use Rattle.std.specs.List.{flat_map};
 ghost use Rattle.dpe_base.specs.Sets.{Within, full};
-ghost use Rattle.pair_stream.specs.Neighbours.{subsets_after};
+ghost use Rattle.pair_stream.specs.Subsets.{subsets_after};
 ghost use Rattle.enum_dpccp.specs.Ccp.{next_to};
 ghost use Rattle.dpe_base.specs.Sets.{IsNextSubset};
 ghost use Rattle.enum_dpccp.specs.Stacks.{grow, stack_left, StackFits, TakesSet, IsChild, NoChild, as_calling, after_subset, entered, AllGiven, NextGiven};

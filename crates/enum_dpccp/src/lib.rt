@@ -3,7 +3,6 @@
 
 mod ccp;
 mod growth;
-mod listed;
 mod sides;
 #[cfg(test)]
 mod tests;

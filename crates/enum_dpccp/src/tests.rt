@@ -1,6 +1,7 @@
-use super::listed::{by_first_sides, by_unions};
+use super::DpCcp;
 use dpe_base::{Pred, Query, Rel};
 use join_graph::Graph;
+use pair_stream::{DpSub, collect_pairs};
 use std::alloc::Global;
 use std::test::Fail;
 
@@ -31,7 +32,7 @@ fn graph_of(alloc: Global, n: usize, edges: &[(u8, u8)]) -> Result<Option<Graph>
 #[test]
 fn chain_of_four(rt: HostRuntime) -> Result<(), Fail> {
     let graph = graph_of(rt.alloc(), 4, &[(0, 1), (1, 2), (2, 3)])?.expect(&rt, "a query");
-    let list = by_first_sides(rt.alloc(), &graph)?;
+    let list = collect_pairs(rt.alloc(), &mut DpCcp::over(&graph))?;
     let mut found = Vec::new(rt.alloc());
     for p in list.iter() {
         found.push((p.a.bits(), p.b.bits()))?;
@@ -64,9 +65,9 @@ fn clique_of_ten(rt: HostRuntime) -> Result<(), Fail> {
         }
     }
     let graph = graph_of(rt.alloc(), 10, &edges)?.expect(&rt, "a query");
-    let list = by_first_sides(rt.alloc(), &graph)?;
+    let list = collect_pairs(rt.alloc(), &mut DpCcp::over(&graph))?;
     assert_eq!(rt; list.len(), 28501);
-    let other = by_unions(rt.alloc(), &graph)?;
+    let other = collect_pairs(rt.alloc(), &mut DpSub::over(&graph))?;
     assert_eq!(rt; other.len(), 28501);
     Ok(())
 }

@@ -10,11 +10,8 @@ use Rattle.dpe_base.specs.declared.query.Pred.{Pred}
 use Rattle.dpe_base.specs.Queries.{JoinQuery, IsQuery, relations}
 use Rattle.dpe_base.specs.Sets.{Has, Meets, member, union, minus, single}
 use Rattle.dpe_base.proofs.SetLaws.{sets}
+use Rattle.join_graph.specs.Laws.{Ends}
 use Rattle.join_graph.specs.Graphs.{JoinGraph, IsGraph, IsNeighbours, Edge, Crossed, adjacent_to, adjacency, other_end, graph_of}
-
--- the predicate's ends are r and s
-abbrev pub Ends : Pred → ℕ → ℕ → Type 0
-Ends p r s = ((p.low ≡ r) × (p.high ≡ s)) ⊎ ((p.high ≡ r) × (p.low ≡ s))
 
 abbrev pub SomeEnds : List Pred → ℕ → ℕ → Type 0
 SomeEnds [] r s = ⊥

@@ -65,6 +65,7 @@ fn adjacency(preds: &[Pred]) -> [RelSet; N_MAX]
 }
 
 impl Graph {
+    /// Two relations are neighbours where a predicate of the query has them as its ends.
     pub fn of(query: &Query) -> Graph
         ensures { result ≡ graph_of query.now }
     {
@@ -74,6 +75,7 @@ impl Graph {
         }
     }
 
+    /// How many relations the query has: they are the numbers below it.
     pub fn n(&self) -> u8
         ensures value { result ≡ self.now.n }
         ensures valid { IsGraph self.now }
@@ -95,7 +97,7 @@ impl Graph {
         all
     }
 
-    /// The relations outside `s` that are joined to one in `s`.
+    /// The relations outside `s` that a predicate joins to one in `s`.
     pub fn neighbours(&self, s: RelSet) -> RelSet
         requires { Within s (full self.now.n) }
         ensures { IsNeighbours self.now s result }
@@ -103,7 +105,7 @@ impl Graph {
         self.gathered(s).minus(s)
     }
 
-    /// Whether an edge has one end in `a` and the other in `b`.
+    /// Whether a predicate has one end in `a` and the other in `b`.
     pub fn joined(&self, a: RelSet, b: RelSet) -> bool
         requires a_in { Within a (full self.now.n) }
         requires b_in { Within b (full self.now.n) }
@@ -138,7 +140,7 @@ impl Graph {
         part
     }
 
-    /// Whether every split of `s` into two parts that are not empty is crossed by an edge.
+    /// Whether `s` is not empty and a predicate crosses every split of `s` into two parts that are not empty.
     pub fn connected(&self, s: RelSet) -> bool
         requires { Within s (full self.now.n) }
         ensures { IsTrue result ↔ Connected self.now s }
@@ -150,12 +152,14 @@ impl Graph {
         }
     }
 
-    /// The least relation that no walk from relation 0 reaches.
+    /// The least relation that no walk from relation 0 reaches; `None` exactly where the graph is connected.
     pub fn first_unreached(&self) -> Option<u8>
         ensures none { IsNone result ↔ Connected self.now (full self.now.n) }
         ensures some { IfSome result (λ r. IsFirstUnreached self.now r) }
     {
         let all = RelSet::full(self.n);
-        all.minus(self.grown(0, all)).least()
+        let reached = self.grown(0, all);
+        let unreached = all.minus(reached);
+        unreached.least()
     }
 }

@@ -1,5 +1,5 @@
 -- Lists of pairs that are complete, and lists whose pairs stand after the pairs that build their sides.
-use Rattle.std.specs.Prelude.{◌≡◌, ◌≢◌, ◌↔◌, ℕ, ◌<◌, ◌≤◌, ◌⊎◌, List, length, Contains, slice_index_or}
+use Rattle.std.specs.Prelude.{◌≡◌, ◌≢◌, ◌↔◌, ℕ, ◌<◌, ◌⊎◌, List, length, Contains, slice_index_or}
 use Rattle.std.specs.List.{AllPairs}
 use Rattle.dpe_base.specs.declared.pair.Pair.{Pair}
 use Rattle.dpe_base.specs.Sets.{union}

@@ -1,12 +1,13 @@
-//! Streams of pairs of connected sets: what every enumerator keeps, the connected sets by size, and the enumeration by unions.
+//! Streams of pairs of connected sets: what every enumerator keeps, the connected sets by size,
+//! and the enumeration by unions.
 #![tactic(auto)]
 
-mod gather;
+mod collect;
+mod dpsub;
 mod parts;
 mod stream;
-mod sub;
 
-pub use gather::gathered;
+pub use collect::collect_pairs;
+pub use dpsub::DpSub;
 pub use parts::Parts;
 pub use stream::PairStream;
-pub use sub::DpSub;

@@ -1,0 +1,4 @@
+pub mod Command
+pub mod Line
+pub mod Usage
+pub mod Values

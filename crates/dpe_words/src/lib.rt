@@ -1,0 +1,17 @@
+//! The command line: its words, read by `clap` as one command with eight options, and the settings
+//! that they ask for.
+#![tactic(auto)]
+
+mod choices;
+mod command;
+mod format;
+mod line;
+#[cfg(test)]
+mod tests;
+mod usage;
+mod values;
+
+pub use choices::{Mode, Settings, WordFault};
+pub use format::Format;
+pub use line::settings;
+pub use usage::usage_line;

@@ -1,0 +1,94 @@
+ghost use Rattle.std.specs.Prelude.{◌≡◌, map, IfOk};
+ghost use Rattle.dpe_words.specs.Command.{whole_line};
+ghost use Rattle.dpe_words.specs.Line.{Tells, given_by, given_in, settings_by, settings_of, texts_of};
+
+use crate::choices::{Settings, WordFault};
+use crate::command::dpe_command;
+use crate::values::{
+    enumerator_of, format_of, mode_of, model_of, number_in, small_number_in, stats_of,
+};
+use clap::error::ErrorKind;
+use std::alloc::{AllocError, Global};
+
+/// The values of the options, as they were written.
+#[derive(Drop)]
+pub struct Texts<'a> {
+    pub mode: Option<&'a str>,
+    pub enumerator: Option<&'a str>,
+    pub buffer: Option<&'a str>,
+    pub workers: Option<&'a str>,
+    pub model: Option<&'a str>,
+    pub format: Option<&'a str>,
+    pub stats: Option<&'a str>,
+    pub number: Option<&'a str>,
+}
+
+fn line_of<'a>(alloc: Global, words: &'a [String]) -> Result<Vec<&'a str>, AllocError>
+    ensures { IfOk result (λ v. map (λ s. s.now) v.items ≡ whole_line (texts_of words.entry.now)) }
+{
+    let mut line = Vec::new(alloc);
+    line.push("dpe")?;
+    for word in words {
+        line.push(word.as_str())?;
+    }
+    Ok(line)
+}
+
+/// The values that the words of a whole line give the options.
+fn texts_in<'a>(alloc: Global, line: &'a [&'a str]) -> Result<Texts<'a>, WordFault>
+    ensures { (words : _) → map (λ s. s.now) line.entry.now ≡ whole_line words → Tells given_in result (given_by words) }
+{
+    let command = dpe_command(alloc)?;
+    match command.try_get_matches_from(line) {
+        Ok(matches) => Ok(Texts {
+            mode: matches.get_str("mode"),
+            enumerator: matches.get_str("enumerator"),
+            buffer: matches.get_str("buffer"),
+            workers: matches.get_str("workers"),
+            model: matches.get_str("model"),
+            format: matches.get_str("format"),
+            stats: matches.get_str("stats"),
+            number: matches.get_str("number"),
+        }),
+        Err(error) => match error.kind() {
+            ErrorKind::OutOfMemory => Err(WordFault::NoMemory),
+            _ => Err(WordFault::Usage),
+        },
+    }
+}
+
+/// What the values ask for, where each stands in its table.
+#[tactic(auto, unfolding(crate::specs::Line::settings_by))]
+fn settings_in(texts: &Texts) -> Option<Settings>
+    ensures { result ≡ settings_by (given_in texts.now) }
+{
+    let mode = mode_of(texts.mode)?;
+    let enumerator = enumerator_of(texts.enumerator)?;
+    let buffer = small_number_in(texts.buffer, 1, 65536, 4096)?;
+    let workers = small_number_in(texts.workers, 1, 64, 4)?;
+    let model = model_of(texts.model)?;
+    let format = format_of(texts.format)?;
+    let stats = stats_of(texts.stats)?;
+    let number = number_in(texts.number, 0, u64::MAX, 1)?;
+    Some(Settings {
+        mode,
+        enumerator,
+        buffer,
+        workers,
+        model,
+        format,
+        stats,
+        number,
+    })
+}
+
+/// What the words after the program's name ask for. `WordFault::Usage` comes exactly where they are
+/// no command line.
+#[tactic(auto, unfolding(crate::specs::Line::settings_of))]
+pub fn settings(alloc: Global, words: &[String]) -> Result<Settings, WordFault>
+    ensures { Tells (λ s. s) result (settings_of (texts_of words.now)) }
+{
+    let line = line_of(alloc, words)?;
+    let texts = texts_in(alloc, line.as_slice())?;
+    settings_in(&texts).ok_or(WordFault::Usage)
+}

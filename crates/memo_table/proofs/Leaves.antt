@@ -1,0 +1,76 @@
+-- The words of the relations alone are offered, one after the other.
+use Rattle.std.proofs.Common.{◌≡◌, ℕ, ◌+◌, ◌<◌, ◌≤◌, ◌≢◌, ◌↔◌, Bool, cond, List, [], Contains, sym, refl, ap, ◌∙◌, subst, arith, ⊎_elim, ne_eqb}
+use mathlib.Core.Logic.{dite}
+use native.Mathlib.Decide.{ℕ_discrete}
+use Rattle.std.proofs.lemmas.Nat.{pow_below, pow_pos}
+use Rattle.dpe_base.specs.declared.TheConstants.{EMPTY, N_MAX}
+use Rattle.dpe_base.specs.Queries.{relations}
+use Rattle.dpe_base.specs.Sets.{Within, single, full}
+use Rattle.dpe_base.proofs.SetLaws.{sets}
+use Rattle.memo_table.specs.declared.view.View.{View}
+use Rattle.memo_table.specs.declared.view.TreeSpace.{TreeSpace}
+use Rattle.memo_table.specs.Views.{with_bound, with_offer}
+use Rattle.memo_table.specs.Making.{leaf_word, HasLeaves, IsOpen}
+use Rattle.memo_table.specs.Rule.{IsTreeSpace}
+use Rattle.memo_table.specs.Seats.{MemoTable, SeatView, Settled}
+use Rattle.memo_table.proofs.Bounds.{first_stands, others_stand, first_or_other, none_stands}
+use Rattle.memo_table.proofs.TreeWords.{leaf_least}
+
+abbrev leaf_bound : ℕ → ℕ × ℕ
+leaf_bound r = (single r, leaf_word r)
+
+-- a word of a tree is a bound more
+pub offer_bounds : (v : View) (t w : ℕ) → w ≢ EMPTY → with_offer v t w ≡ with_bound v t w
+offer_bounds v t w ne = let F : Bool → Type 0 = λ b. cond b v (with_bound v t w) ≡ with_bound v t w in subst F (sym (ne_eqb w EMPTY ne)) refl
+
+leaf_word_low : (r : ℕ) → r < N_MAX → leaf_word r < EMPTY
+unfolding single
+leaf_word_low r l = let p = pow_below r N_MAX l in omega arith
+
+-- a relation alone is no empty set
+pub single_some : (r : ℕ) → single r ≢ 0
+unfolding single
+single_some r e = let p = pow_pos r in omega arith
+
+-- a relation of the query is one of its relations
+pub single_within : (r n : ℕ) → r < n → Within (single r) (full n)
+single_within r n l k has = grind (arith, sets)
+
+-- each leaf has its word among the bounds
+pub leaves_settled : (kind : ℕ) (space : TreeSpace) (v : View) → IsTreeSpace space → v.query ≡ space.query → v.pairs ≡ space.pairs → HasLeaves (relations space.query) v
+    → (r : ℕ) → r < relations space.query → Settled kind v (single r)
+leaves_settled kind space v is query pairs has r l = record {
+  word = leaf_word r;
+  bound = (has (leaf_bound r)).1 (r, l, refl);
+  least = rw (query, pairs) (leaf_least kind space is r l);
+}
+
+pub no_leaves : (v : View) → v.bounds ≡ [] → HasLeaves 0 v
+no_leaves v e b = (
+  (λ has. let F : List (ℕ × ℕ) → Type 0 = λ l. Contains l b in absurd (none_stands b (subst F e has))),
+  (λ x. let l : x.0 < 0 = x.1 in absurd (omega arith)),
+)
+
+leaves_more : (r : ℕ) (v : View) → HasLeaves r v → HasLeaves (r + 1) (with_bound v (single r) (leaf_word r))
+leaves_more r v has b = (
+  (λ c. ⊎_elim
+      (λ (e : leaf_bound r ≡ b). (r, omega arith, sym e))
+      (λ old. let x = (has b).0 old in (x.0, (let l = x.1 in omega arith), x.2))
+      (first_or_other (leaf_bound r) v.bounds b c)),
+  (λ x. dite (ℕ_discrete x.0 r)
+      (λ (e : x.0 ≡ r). let F : ℕ × ℕ → Type 0 = Contains (with_bound v (single r) (leaf_word r)).bounds in
+      subst F (sym (x.2 ∙ ap leaf_bound e)) (first_stands (leaf_bound r) v.bounds))
+      (λ (ne : x.0 ≢ r). others_stand (leaf_bound r) v.bounds b ((has b).1 (x.0, (let l = x.1 in omega arith), x.2)))),
+)
+
+pub opens_more : (memo : MemoTable) (before now after : SeatView) (r : ℕ) → IsOpen memo before now r → after.table ≡ now.table → after.view ≡ with_offer now.view (single r) (leaf_word r) → r < N_MAX
+    → IsOpen memo before after (r + 1)
+opens_more memo before now after r o table view low =
+    let is : after.view ≡ with_bound now.view (single r) (leaf_word r) = view ∙ offer_bounds now.view (single r) (leaf_word r) (λ e. let l = leaf_word_low r low in omega arith) in record {
+      seat = record { table = table ∙ o.seat.table; query = ap (λ (v : View). v.query) is ∙ o.seat.query; pairs = ap (λ (v : View). v.pairs) is ∙ o.seat.pairs };
+      weight = ap (λ (v : View). v.weight) is ∙ o.weight;
+      floor = ap (λ (v : View). v.floor) is ∙ o.floor;
+      tickets = ap (λ (v : View). v.tickets) is ∙ o.tickets;
+      allowance = ap (λ (v : View). v.allowance) is ∙ o.allowance;
+      leaves = let F : View → Type 0 = HasLeaves (r + 1) in subst F (sym is) (leaves_more r now.view o.leaves);
+    }

@@ -1,0 +1,24 @@
+use Rattle.std.proofs.Common.{rules, arith, ℕ, ◌≡◌, ◌≤◌, ◌+◌, ◌^◌, [], List, Contains, length, subst, sym, ap, ◌∙◌}
+use Rattle.std.proofs.Math.Pow.{pow_mono}
+use Rattle.dpe_base.specs.declared.TheConstants.{SPAN, N_MAX}
+use Rattle.dpe_base.specs.Queries.{relations}
+use Rattle.memo_table.specs.Seats.{TableId}
+use Rattle.memo_table.proofs.Bounds.{none_stands}
+use Rattle.memo_table.proofs.MemoWords.{opening_width}
+use Rattle.memo_table.proofs.memo.Memo.opened.Goals as goal
+
+pub invariant_of-seat : goal.invariant_of-seat
+invariant_of-seat g c =
+    let view : c.in_ok-table.seat.me.0.bounds ≡ [] = search rules in
+    let table = c.in_ok-table.ensures in
+    let same : relations c.in_ok-table.seat.me.0.query ≡ c.args.n = search rules in
+    let words : c.in_ok-table.table.shared.table_id.words ≡ 2 ^ c.args.n + 1 = table.0 ∙ (ap (λ (l : List ℕ). length l) (c.as_slice.ensures.value ∙ c.in_ok-words.ensures) ∙ opening_width c.args.n) in
+    let width : c.in_ok-table.seat.table_id.words ≡ 2 ^ relations c.in_ok-table.seat.me.0.query + 1 = rw same (ap (λ (t : TableId). t.words) table.2 ∙ words) in
+    let few : relations c.in_ok-table.seat.me.0.query ≤ N_MAX = search rules in
+    let small : 2 ^ relations c.in_ok-table.seat.me.0.query ≤ 2 ^ N_MAX = pow_mono few in record {
+      no_slot = search rules;
+      weight = search rules;
+      width = width;
+      small = omega arith;
+      bounds = λ b has. let F : List _ → Type 0 = λ l. Contains l b in absurd (none_stands b (subst F view has));
+    }

@@ -1,0 +1,3 @@
+pub mod Legals
+pub mod Roots
+pub mod Plain

@@ -1,0 +1,37 @@
+-- The values of a report have no number with a point.
+use Rattle.std.proofs.Common.{◌≡◌, ℕ, Bool, true, false, not, cond, ◌&&◌, List, [], ◌∷◌, ◌++◌, Some, None, refl}
+use Rattle.std.proofs.lemmas.List.Folds.{list_all-append}
+use Rattle.serde_json.specs.Data.{Data}
+use Rattle.serde_json.specs.View.{view, items_of}
+use Rattle.serde_json.specs.Written.{has_float, members_have_float, items_have_float}
+use Rattle.serde_json.specs.declared.value.Value.{Value}
+use Rattle.dpe_base.specs.Queries.{JoinQuery}
+use Rattle.join_tree.specs.Trees.{JoinTree, leaf, join}
+use Rattle.plan_report.specs.Entries.{PlannedQuery}
+use Rattle.plan_report.specs.Json.{plan_data, stats_member, planned_data, report_data, values_of, is_plain, are_plain}
+
+plan_plain : (kind : ℕ) (q : JoinQuery) (aliases : List (List ℕ)) (t : JoinTree) → has_float (plan_data kind q aliases t) ≡ false
+plan_plain kind q aliases (leaf r) = refl
+plan_plain kind q aliases (join op left right) = rw (plan_plain kind q aliases left, plan_plain kind q aliases right) refl
+
+stats_plain : (s : _) → members_have_float (stats_member s) ≡ false
+stats_plain (Some s) = refl
+stats_plain None = refl
+
+pub planned_plain : (v : Value) (e : PlannedQuery) → view v ≡ planned_data e → is_plain v ≡ true
+planned_plain v e is = rw (is, plan_plain e.kind e.query e.aliases e.tree, stats_plain e.stats) refl
+
+pub plain_either : (ok : Bool) (vs : List Value) (v : Value) → are_plain vs ≡ true → is_plain v ≡ true → are_plain (cond ok (vs ++ v ∷ []) vs) ≡ true
+plain_either true vs v all one = rw (list_all-append is_plain vs (v ∷ []), all, one) refl
+plain_either false vs v all one = all
+
+split : (a b : Bool) → (not a && b) ≡ true → (a ≡ false) × (b ≡ true)
+split true b h = absurd cc
+split false b h = (refl, h)
+
+items_plain : (vs : List Value) → are_plain vs ≡ true → items_have_float (items_of (values_of vs)) ≡ false
+items_plain [] h = refl
+items_plain (v ∷ vs) h = let t = split (has_float (view v)) (are_plain vs) h in rw (t.0, items_plain vs t.1) refl
+
+pub report_plain : (vs : List Value) (d : Data) → d ≡ report_data (values_of vs) → are_plain vs ≡ true → has_float d ≡ false
+report_plain vs d e h = rw (e, items_plain vs h) refl

@@ -1,0 +1,68 @@
+-- The JSON of an entry. The members of an object stand in the order of their names' bytes.
+use Rattle.std.specs.Prelude.{ℕ, List, [], ◌++◌, map, not, Bool, Option, Some, None, codes, slice_index_or}
+use Rattle.serde_json.specs.Data.{Data, Members, number, unsigned, string, array, object, member, no_members}
+use Rattle.std.specs.List.{list_all}
+use Rattle.serde_json.specs.View.{view, items_of}
+use Rattle.serde_json.specs.Written.{compact_text, has_float}
+use Rattle.serde_json.specs.declared.value.Value.{Value}
+use Rattle.dpe_base.specs.Queries.{JoinQuery, relations}
+use Rattle.dpe_base.specs.Sets.{single, full}
+use Rattle.card_scaled.specs.Cards.{rows}
+use Rattle.join_tree.specs.Trees.{JoinTree, leaf, join, set_of, cost}
+use Rattle.plan_report.specs.declared.entry.Stats.{Stats}
+use Rattle.plan_report.specs.Texts.{newline}
+use Rattle.plan_report.specs.Names.{operator_name, enumerator_name}
+use Rattle.plan_report.specs.Entries.{PlannedQuery}
+
+abbrev pub count : ℕ → Data
+count n = number (unsigned n)
+
+abbrev pub scan_data : List ℕ → ℕ → Data
+scan_data alias rows =
+    object (member (codes "alias") (string alias) (member (codes "op") (string (codes "scan")) (member (codes "rows") (count rows) no_members)))
+
+abbrev pub join_data : List ℕ → ℕ → ℕ → Data → Data → Data
+join_data operator rows cost left right =
+    object (member (codes "cost") (count cost) (member (codes "left") left (member (codes "op") (string operator)
+    (member (codes "right") right (member (codes "rows") (count rows) no_members)))))
+
+abbrev pub plan_data : ℕ → JoinQuery → List (List ℕ) → JoinTree → Data
+plan_data kind q aliases (leaf r) = scan_data (slice_index_or aliases r []) (rows q (single r))
+plan_data kind q aliases (join op left right) =
+    join_data (operator_name kind op) (rows q (set_of (join op left right))) (cost kind q (join op left right)) (plan_data kind q aliases left) (plan_data kind q aliases right)
+
+abbrev pub stats_data : Stats → Data
+stats_data s =
+    object (member (codes "buffer") (count s.buffer) (member (codes "buffers") (count s.buffers) (member (codes "enumerator") (string (enumerator_name s.kind))
+    (member (codes "probes") (count s.probes) (member (codes "rounds") (count s.rounds) no_members)))))
+
+abbrev pub stats_member : Option Stats → Members
+stats_member (Some s) = member (codes "stats") (stats_data s) no_members
+stats_member None = no_members
+
+-- the members of every accepted entry, and then the others
+abbrev pub entry_data : List ℕ → ℕ → ℕ → ℕ → Data → Members → Data
+entry_data name cost rows pairs plan others =
+    object (member (codes "cost") (count cost) (member (codes "name") (string name) (member (codes "pairs") (count pairs)
+    (member (codes "plan") plan (member (codes "rows") (count rows) others)))))
+
+abbrev pub planned_data : PlannedQuery → Data
+planned_data e =
+    entry_data e.name (cost e.kind e.query e.tree) (rows e.query (full (relations e.query))) e.pairs (plan_data e.kind e.query e.aliases e.tree) (stats_member e.stats)
+
+abbrev pub report_data : List Data → Data
+report_data entries = object (member (codes "queries") (array (items_of entries)) no_members)
+
+-- the whole report as one line
+unfoldable pub report_line : List Data → List ℕ
+report_line entries = compact_text (report_data entries) ++ newline
+
+abbrev pub values_of : List Value → List Data
+values_of = map view
+
+-- no value has a number with a point
+abbrev pub is_plain : Value → Bool
+is_plain v = not (has_float (view v))
+
+abbrev pub are_plain : List Value → Bool
+are_plain = list_all is_plain

@@ -1,0 +1,6 @@
+pub mod Entries
+pub mod Json
+pub mod Names
+pub mod Reports
+pub mod Texts
+pub mod Words

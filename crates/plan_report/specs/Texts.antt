@@ -1,0 +1,58 @@
+-- The text of an entry: a line for the query, one for the numbers, and one for each node of the tree.
+use Rattle.std.specs.Prelude.{ℕ, zero, suc, ◌+◌, max, List, [], ◌∷◌, ◌++◌, Option, Some, None, codes, decimal, slice_index_or}
+use Rattle.dpe_base.specs.Queries.{JoinQuery, relations}
+use Rattle.dpe_base.specs.Sets.{single, full}
+use Rattle.card_scaled.specs.Cards.{rows}
+use Rattle.join_tree.specs.Trees.{JoinTree, leaf, join, set_of, cost}
+use Rattle.plan_report.specs.declared.entry.Stats.{Stats}
+use Rattle.plan_report.specs.Names.{operator_name, enumerator_name}
+use Rattle.plan_report.specs.Entries.{PlannedQuery}
+
+abbrev pub newline : List ℕ
+newline = 10 ∷ []
+
+-- two spaces a level
+abbrev pub indent : ℕ → List ℕ
+indent zero = []
+indent (suc n) = indent n ++ codes "  "
+
+abbrev pub query_line : List ℕ → List ℕ
+query_line name = codes "query " ++ (name ++ newline)
+
+abbrev pub numbers_line : ℕ → ℕ → ℕ → List ℕ
+numbers_line cost rows pairs = codes "cost " ++ (decimal cost ++ (codes " rows " ++ (decimal rows ++ (codes " pairs " ++ (decimal pairs ++ newline)))))
+
+abbrev pub scan_line : List ℕ → ℕ → List ℕ
+scan_line alias rows = codes "scan " ++ (alias ++ (codes " rows " ++ (decimal rows ++ newline)))
+
+abbrev pub join_line : List ℕ → ℕ → ℕ → List ℕ
+join_line operator rows cost = operator ++ (codes " rows " ++ (decimal rows ++ (codes " cost " ++ (decimal cost ++ newline))))
+
+abbrev pub stats_line : Stats → List ℕ
+stats_line s =
+    codes "stats "
+    ++ (enumerator_name s.kind ++ (codes " buffer " ++ (decimal s.buffer ++ (codes " buffers " ++ (decimal s.buffers
+    ++ (codes " rounds " ++ (decimal s.rounds ++ (codes " probes " ++ (decimal s.probes ++ newline)))))))))
+
+-- each node on a line of its own, before its sides, the left one first
+abbrev pub plan_text : ℕ → JoinQuery → List (List ℕ) → ℕ → JoinTree → List ℕ
+plan_text kind q aliases depth (leaf r) = indent depth ++ scan_line (slice_index_or aliases r []) (rows q (single r))
+plan_text kind q aliases depth (join op left right) =
+    indent depth
+    ++ (join_line (operator_name kind op) (rows q (set_of (join op left right))) (cost kind q (join op left right))
+    ++ (plan_text kind q aliases (suc depth) left ++ plan_text kind q aliases (suc depth) right))
+
+abbrev pub stats_text : Option Stats → List ℕ
+stats_text (Some s) = stats_line s
+stats_text None = []
+
+abbrev pub planned_text : PlannedQuery → List ℕ
+planned_text e =
+    query_line e.name
+    ++ (numbers_line (cost e.kind e.query e.tree) (rows e.query (full (relations e.query))) e.pairs
+    ++ (plan_text e.kind e.query e.aliases 0 e.tree ++ stats_text e.stats))
+
+-- how many joins stand above the deepest leaf
+abbrev pub height : JoinTree → ℕ
+height (leaf r) = 0
+height (join op left right) = 1 + max (height left) (height right)

@@ -1,0 +1,152 @@
+//! The JSON of a planned query.
+ghost use Rattle.std.specs.Prelude.{◌≡◌, ◌<◌, ◌++◌, length, IfOk, codes, false};
+ghost use Rattle.serde_json.specs.Data.{member, no_members};
+ghost use Rattle.serde_json.specs.View.{view, items_of};
+ghost use Rattle.serde_json.specs.Written.{compact_text, has_float};
+ghost use Rattle.dpe_base.specs.Queries.{relations};
+ghost use Rattle.join_graph.specs.Graphs.{graph_of};
+ghost use Rattle.join_tree.specs.Trees.{Legal, cost};
+ghost use Rattle.join_tree.specs.TreeOf.{tree_of};
+ghost use Rattle.plan_report.specs.Json.{entry_data, scan_data, join_data, stats_data, plan_data, planned_data, report_data, values_of};
+ghost use Rattle.plan_report.specs.Texts.{newline};
+
+use crate::entry::Stats;
+use crate::names::{enumerator_name, operator_name};
+use crate::numbers::{cost_of, rows_of, rows_of_all};
+use cost_model::CostModel;
+use dpe_base::{COST_LIMIT, Name, Query};
+use join_tree::Tree;
+use serde_json::{Value, json};
+use std::alloc::{AllocError, Global};
+
+fn scan_value(alloc: Global, alias: &str, rows: u64) -> Result<Value, AllocError>
+    ensures { IfOk result (λ v. view v ≡ scan_data alias.now rows) }
+{
+    json!(in alloc; {"alias": alias, "op": "scan", "rows": rows})
+}
+
+fn join_value(
+    alloc: Global,
+    operator: &str,
+    rows: u64,
+    cost: u64,
+    left: Value,
+    right: Value,
+) -> Result<Value, AllocError>
+    ensures { IfOk result (λ v. view v ≡ join_data operator.now rows cost (view left) (view right)) }
+{
+    json!(in alloc; {"cost": cost, "left": left, "op": operator, "right": right, "rows": rows})
+}
+
+fn plan_value<M: CostModel>(
+    alloc: Global,
+    aliases: &[Name],
+    query: &Query,
+    model: &M,
+    tree: &Tree,
+) -> Result<Value, AllocError>
+    requires named { length aliases.now ≡ relations query.now }
+    requires legal { Legal M.KIND (graph_of query.now) (tree_of tree.now) }
+    requires word { cost M.KIND query.now (tree_of tree.now) < COST_LIMIT }
+    ensures { IfOk result (λ v. view v ≡ plan_data M.KIND query.now aliases.now (tree_of tree.now)) }
+{
+    let rows = rows_of::<M>(query, tree);
+    match tree {
+        Tree::Leaf(r) => scan_value(alloc, aliases[*r as usize].text(), rows),
+        Tree::Join { op, left, right } => {
+            let cost = cost_of(query, model, tree);
+            let left = plan_value(alloc, aliases, query, model, left)?;
+            let right = plan_value(alloc, aliases, query, model, right)?;
+            join_value(alloc, operator_name(M::KIND, *op), rows, cost, left, right)
+        }
+    }
+}
+
+fn stats_value(alloc: Global, stats: Stats) -> Result<Value, AllocError>
+    ensures { IfOk result (λ v. view v ≡ stats_data stats) }
+{
+    let enumerator = enumerator_name(stats.kind);
+    let Stats {
+        buffer,
+        buffers,
+        rounds,
+        probes,
+        ..
+    } = stats;
+    json!(in alloc; {"buffer": buffer, "buffers": buffers, "enumerator": enumerator, "probes": probes, "rounds": rounds})
+}
+
+// The entry without statistics.
+fn plain_value(
+    alloc: Global,
+    name: &str,
+    cost: u64,
+    rows: u64,
+    pairs: u64,
+    plan: Value,
+) -> Result<Value, AllocError>
+    ensures { IfOk result (λ v. view v ≡ entry_data name.now cost rows pairs (view plan) no_members) }
+{
+    json!(in alloc; {"cost": cost, "name": name, "pairs": pairs, "plan": plan, "rows": rows})
+}
+
+// The entry with statistics.
+fn counted_value(
+    alloc: Global,
+    name: &str,
+    cost: u64,
+    rows: u64,
+    pairs: u64,
+    plan: Value,
+    stats: Value,
+) -> Result<Value, AllocError>
+    ensures { IfOk result (λ v. view v ≡ entry_data name.now cost rows pairs (view plan) (member (codes "stats") (view stats) no_members)) }
+{
+    json!(in alloc; {"cost": cost, "name": name, "pairs": pairs, "plan": plan, "rows": rows, "stats": stats})
+}
+
+/// The entry of a planned query.
+pub fn planned_value<M: CostModel>(
+    alloc: Global,
+    name: &Name,
+    aliases: &[Name],
+    query: &Query,
+    model: &M,
+    tree: &Tree,
+    pairs: u64,
+    stats: Option<Stats>,
+) -> Result<Value, AllocError>
+    requires named { length aliases.now ≡ relations query.now }
+    requires legal { Legal M.KIND (graph_of query.now) (tree_of tree.now) }
+    requires word { cost M.KIND query.now (tree_of tree.now) < COST_LIMIT }
+    ensures { IfOk result (λ v. view v
+        ≡ planned_data (record { name = name.now; aliases = aliases.now; kind = M.KIND; query = query.now; tree = tree_of tree.now; pairs = pairs; stats = stats })) }
+{
+    let cost = cost_of(query, model, tree);
+    let rows = rows_of_all(query);
+    let plan = plan_value(alloc, aliases, query, model, tree)?;
+    match stats {
+        Some(stats) => {
+            let stats = stats_value(alloc, stats)?;
+            counted_value(alloc, name.text(), cost, rows, pairs, plan, stats)
+        }
+        None => plain_value(alloc, name.text(), cost, rows, pairs, plan),
+    }
+}
+
+/// The entries of a report as one object.
+pub fn report_value(alloc: Global, entries: Vec<Value>) -> Result<Value, AllocError>
+    ensures { IfOk result (λ v. view v ≡ report_data (values_of entries.items)) }
+{
+    json!(in alloc; {"queries": Value::Array(entries)})
+}
+
+/// The compact text of a value, as a line.
+pub fn line_of(alloc: Global, value: &Value) -> Result<Vec<u8>, AllocError>
+    requires { has_float (view value.now) ≡ false }
+    ensures { IfOk result (λ v. v.items ≡ compact_text (view value.now) ++ newline) }
+{
+    let mut line = value.to_string(alloc)?;
+    line.push('\n')?;
+    Ok(line.into_bytes())
+}

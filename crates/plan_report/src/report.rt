@@ -1,0 +1,105 @@
+//! A report of several queries.
+ghost use Rattle.std.specs.Prelude.{◌≡◌, true};
+ghost use Rattle.plan_report.specs.Json.{are_plain};
+
+use crate::entry::Stats;
+use crate::json::{line_of, planned_value, report_value};
+use crate::text::write_planned;
+use cost_model::CostModel;
+use dpe_base::{COST_LIMIT, Name, Query};
+use join_tree::Tree;
+use serde_json::Value;
+use std::alloc::{AllocError, Global};
+
+/// Lines of text, or one line of JSON.
+#[derive(Clone, Copy, Debug, PartialEq, Eq)]
+pub enum Format {
+    Text,
+    Json,
+}
+
+/// The entries of the queries so far, in order.
+#[derive(Drop)]
+pub struct Report {
+    alloc: Global,
+    format: Format,
+    text: String,
+    entries: Vec<Value>,
+    ghost plain: { are_plain entries.items ≡ true },
+}
+
+impl Report {
+    ghost use Rattle.std.specs.Prelude.{◌≡◌, ◌<◌, [], length, IfOk, OnOk, OnErr};
+    ghost use Rattle.dpe_base.specs.Queries.{relations};
+    ghost use Rattle.join_graph.specs.Graphs.{graph_of};
+    ghost use Rattle.join_tree.specs.Trees.{Legal, cost};
+    ghost use Rattle.join_tree.specs.TreeOf.{tree_of};
+    ghost use Rattle.plan_report.specs.Json.{report_line};
+    ghost use Rattle.plan_report.specs.Reports.{format_of, text_in, entries_in, AppendsPlanned, Keeps};
+
+    /// A report without entries. It takes no memory.
+    pub fn new(alloc: Global, format: Format) -> Report
+        ensures format { format_of result ≡ format }
+        ensures text { text_in result ≡ [] }
+        ensures entries { entries_in result ≡ [] }
+    {
+        Report {
+            alloc,
+            format,
+            text: String::new(alloc),
+            entries: Vec::new(alloc),
+        }
+    }
+
+    /// Appends the entry of a query with this plan and number of pairs, and with the statistics where they are given.
+    pub fn planned<M: CostModel>(
+        &mut self,
+        name: &Name,
+        aliases: &[Name],
+        query: &Query,
+        model: &M,
+        tree: &Tree,
+        pairs: u64,
+        stats: Option<Stats>,
+    ) -> Result<(), AllocError>
+        requires named { length aliases.now ≡ relations query.now }
+        requires legal { Legal M.KIND (graph_of query.now) (tree_of tree.now) }
+        requires word { cost M.KIND query.now (tree_of tree.now) < COST_LIMIT }
+        ensures ok { OnOk result (AppendsPlanned self.old self.new
+            (record { name = name.now; aliases = aliases.now; kind = M.KIND; query = query.now; tree = tree_of tree.now; pairs = pairs; stats = stats })) }
+        ensures err { OnErr result (Keeps self.old self.new) }
+    {
+        match self.format {
+            Format::Text => {
+                let mut entry = String::new(self.alloc);
+                write_planned(&mut entry, name, aliases, query, model, tree, pairs, stats)?;
+                self.text.push_str(entry.as_str())
+            }
+            Format::Json => {
+                let entry =
+                    planned_value(self.alloc, name, aliases, query, model, tree, pairs, stats)?;
+                self.entries.push(entry)?;
+                Ok(())
+            }
+        }
+    }
+
+    /// The text of all entries.
+    pub fn text(self) -> Vec<u8>
+        requires { format_of self ≡ Format.Text }
+        ensures { result.items ≡ text_in self }
+    {
+        let Report { text, .. } = self;
+        text.into_bytes()
+    }
+
+    /// The line of all entries as JSON.
+    pub fn json(self) -> Result<Vec<u8>, AllocError>
+        requires { format_of self ≡ Format.Json }
+        ensures { IfOk result (λ v. v.items ≡ report_line (entries_in self)) }
+    {
+        let Report { alloc, entries, .. } = self;
+        let whole = report_value(alloc, entries)?;
+        line_of(alloc, &whole)
+    }
+}

@@ -1,0 +1,5 @@
+pub mod Answer
+pub mod Entries
+pub mod Names
+pub mod Parts
+pub mod Walk

@@ -1,0 +1,66 @@
+//! Names and their numbers.
+ghost use Rattle.std.specs.Prelude.{◌≡◌, ℕ, List, map, position};
+ghost use Rattle.std.specs.Str.{bytes_eq};
+ghost use Rattle.query_json.specs.Names.{Numbers, distinct_names};
+
+use dpe_base::Name;
+use indexmap::IndexSet;
+use std::alloc::{AllocError, AllocFailed, Global};
+
+/// A thing with a name.
+pub trait HasName {
+    ghost label: { Self → List ℕ };
+
+    fn name(&self) -> &Name
+        ensures { result.now ≡ label self.now };
+}
+
+/// A name stands twice, or memory ran out.
+#[derive(Debug, Drop)]
+pub enum Repeat {
+    Memory,
+    Name(Name),
+}
+
+impl From<AllocError> for Repeat {
+    ghost use Rattle.std.specs.Prelude.{◌≡◌};
+    ghost use Rattle.query_json.specs.declared.names.Repeat.TheVariants.{Memory};
+
+    ghost from_gives = { λ _ e. e ≡ Memory };
+
+    fn from(_: AllocError) -> Self {
+        Repeat::Memory
+    }
+}
+
+impl<T: Drop> From<AllocFailed<T>> for Repeat {
+    ghost use Rattle.std.specs.Prelude.{◌≡◌};
+    ghost use Rattle.query_json.specs.declared.names.Repeat.TheVariants.{Memory};
+
+    ghost from_gives = { λ _ e. e ≡ Memory };
+
+    fn from(_: AllocFailed<T>) -> Self {
+        Repeat::Memory
+    }
+}
+
+/// The names of the items, each at its item's number.
+pub fn distinct<'a, T: HasName>(alloc: Global, items: &'a [T]) -> Result<IndexSet<&'a str>, Repeat>
+    ensures { Numbers (λ s. map (λ k. k.now) s.keys) result (distinct_names T.label items.entry.now) }
+{
+    let mut names = IndexSet::new(alloc);
+    for item in items {
+        let name = item.name();
+        if !names.insert(name.text())? {
+            return Err(Repeat::Name(Name::copy(alloc, name)?));
+        }
+    }
+    Ok(names)
+}
+
+/// The number of a name.
+pub fn number_of(names: &IndexSet<&str>, name: &str) -> Option<usize>
+    ensures { result ≡ position (bytes_eq name.now) (map (λ k. k.now) names.now.keys) }
+{
+    names.get_index_of(name)
+}

@@ -1,0 +1,199 @@
+//! Reading the whole file.
+ghost use Rattle.std.specs.Prelude.{◌≡◌, ℕ, Result, option_map};
+ghost use Rattle.serde_json.specs.Data.{Data};
+ghost use Rattle.serde_json.specs.View.{view};
+ghost use Rattle.query_json.specs.Answer.{Gives, GivesBy};
+ghost use Rattle.query_json.specs.Walk.{column_at, columns_at, table_at, relation_at, selectivity_at, join_at, joins_at, query_at, file_at, json_at, file_of};
+
+use crate::fault::FileFault;
+use crate::fields::{
+    Element, array_of, elements, name_of, object_of, optional_array_of, optional_name_of,
+    optional_ratio_of, version_of, whole_of,
+};
+use crate::file::{Column, File, JoinItem, QueryItem, Ratio, RelationItem, Table};
+use crate::items::Items;
+use crate::place::{Place, Site};
+use serde_json::Value;
+use std::alloc::Global;
+
+const MAX_ROWS: u64 = 1 << 40;
+
+const MAX_COLUMNS: usize = 4096;
+
+const MAX_JOINS: usize = 1024;
+
+fn place(site: Site, i: u64, j: u64) -> Place
+    ensures { result ≡ record { site = site; i = i; j = j } }
+{
+    Place { site, i, j }
+}
+
+impl Element for Column {
+    ghost reads = { column_at };
+
+    #[tactic(auto, unfolding(crate::specs::Walk::column_at))]
+    fn read(alloc: Global, outer: u64, at: u64, value: &Value) -> Result<Self, FileFault> {
+        object_of(value, place(Site::Column, outer, at))?;
+        let name = name_of(alloc, value.get("name"), place(Site::ColumnName, outer, at))?;
+        let distinct = whole_of(
+            value.get("distinct"),
+            MAX_ROWS,
+            place(Site::Distinct, outer, at),
+        )?;
+        Ok(Column { name, distinct })
+    }
+}
+
+#[tactic(auto, unfolding(crate::specs::Walk::columns_at))]
+fn columns_of(alloc: Global, i: u64, member: Option<&Value>) -> Result<Items<Column>, FileFault>
+    ensures { Gives result (columns_at i (option_map (λ v. view v.now) member.entry)) }
+{
+    match optional_array_of(member, MAX_COLUMNS, place(Site::Columns, i, 0))? {
+        Some(values) => elements(alloc, i, values),
+        None => Ok(Items::new(alloc)),
+    }
+}
+
+impl Element for Table {
+    ghost reads = { table_at };
+
+    #[tactic(auto, unfolding(crate::specs::Walk::table_at))]
+    fn read(alloc: Global, outer: u64, at: u64, value: &Value) -> Result<Self, FileFault> {
+        object_of(value, place(Site::Table, at, 0))?;
+        let name = name_of(alloc, value.get("name"), place(Site::TableName, at, 0))?;
+        let rows = whole_of(value.get("rows"), MAX_ROWS, place(Site::TableRows, at, 0))?;
+        let columns = columns_of(alloc, at, value.get("columns"))?;
+        Ok(Table {
+            name,
+            rows,
+            columns,
+        })
+    }
+}
+
+impl Element for RelationItem {
+    ghost reads = { relation_at };
+
+    #[tactic(auto, unfolding(crate::specs::Walk::relation_at))]
+    fn read(alloc: Global, outer: u64, at: u64, value: &Value) -> Result<Self, FileFault> {
+        object_of(value, place(Site::Relation, outer, at))?;
+        let alias = name_of(alloc, value.get("alias"), place(Site::Alias, outer, at))?;
+        let table = name_of(alloc, value.get("table"), place(Site::TableRef, outer, at))?;
+        let filter = optional_ratio_of(value.get("filter"), place(Site::Filter, outer, at))?;
+        Ok(RelationItem {
+            alias,
+            table,
+            filter,
+        })
+    }
+}
+
+#[tactic(auto, unfolding(crate::specs::Walk::selectivity_at))]
+fn selectivity_of(
+    member: Option<&Value>,
+    has_columns: bool,
+    place: Place,
+) -> Result<Option<Ratio>, FileFault>
+    ensures { Gives result (selectivity_at place has_columns (option_map (λ v. view v.now) member.entry)) }
+{
+    let found = optional_ratio_of(member, place)?;
+    if !has_columns && found.is_none() {
+        return Err(FileFault::Shape(place));
+    }
+    Ok(found)
+}
+
+impl Element for JoinItem {
+    ghost reads = { join_at };
+
+    #[tactic(auto, unfolding(crate::specs::Walk::join_at))]
+    fn read(alloc: Global, outer: u64, at: u64, value: &Value) -> Result<Self, FileFault> {
+        object_of(value, place(Site::JoinItem, outer, at))?;
+        let left = name_of(alloc, value.get("left"), place(Site::Left, outer, at))?;
+        let right = name_of(alloc, value.get("right"), place(Site::Right, outer, at))?;
+        let left_column = optional_name_of(
+            alloc,
+            value.get("left_column"),
+            place(Site::LeftColumn, outer, at),
+        )?;
+        let right_column = optional_name_of(
+            alloc,
+            value.get("right_column"),
+            place(Site::RightColumn, outer, at),
+        )?;
+        let has_columns = left_column.is_some() && right_column.is_some();
+        let selectivity = selectivity_of(
+            value.get("selectivity"),
+            has_columns,
+            place(Site::Selectivity, outer, at),
+        )?;
+        Ok(JoinItem {
+            left,
+            right,
+            left_column,
+            right_column,
+            selectivity,
+        })
+    }
+}
+
+#[tactic(auto, unfolding(crate::specs::Walk::joins_at))]
+fn joins_of(alloc: Global, i: u64, member: Option<&Value>) -> Result<Items<JoinItem>, FileFault>
+    ensures { Gives result (joins_at i (option_map (λ v. view v.now) member.entry)) }
+{
+    match optional_array_of(member, MAX_JOINS, place(Site::Joins, i, 0))? {
+        Some(values) => elements(alloc, i, values),
+        None => Ok(Items::new(alloc)),
+    }
+}
+
+impl Element for QueryItem {
+    ghost reads = { query_at };
+
+    #[tactic(auto, unfolding(crate::specs::Walk::query_at))]
+    fn read(alloc: Global, outer: u64, at: u64, value: &Value) -> Result<Self, FileFault> {
+        object_of(value, place(Site::QueryItem, at, 0))?;
+        let name = name_of(alloc, value.get("name"), place(Site::QueryName, at, 0))?;
+        let list = array_of(value.get("relations"), place(Site::Relations, at, 0))?;
+        let relations = elements(alloc, at, list)?;
+        let joins = joins_of(alloc, at, value.get("joins"))?;
+        Ok(QueryItem {
+            name,
+            relations,
+            joins,
+        })
+    }
+}
+
+#[tactic(auto, unfolding(crate::specs::Walk::file_at))]
+fn file_of(alloc: Global, value: &Value) -> Result<File, FileFault>
+    ensures { Gives result (file_at (view value.now)) }
+{
+    object_of(value, place(Site::Root, 0, 0))?;
+    version_of(value.get("version"), place(Site::Version, 0, 0))?;
+    let table_list = array_of(value.get("tables"), place(Site::Tables, 0, 0))?;
+    let tables = elements(alloc, 0, table_list)?;
+    let query_list = array_of(value.get("queries"), place(Site::Queries, 0, 0))?;
+    let queries = elements(alloc, 0, query_list)?;
+    Ok(File { tables, queries })
+}
+
+#[tactic(auto, using(crate::proofs::Text::json_found, crate::proofs::Text::json_none))]
+fn json_of(alloc: Global, bytes: &[u8]) -> Result<Value, FileFault>
+    ensures { GivesBy view result (json_at bytes.now) }
+{
+    match Value::from_slice(alloc, bytes) {
+        Ok(value) => Ok(value),
+        Err(e) if e.is_memory() => Err(FileFault::NoMemory),
+        Err(_) => Err(FileFault::NotJson),
+    }
+}
+
+/// What the bytes of a file say.
+#[tactic(auto, unfolding(crate::specs::Walk::file_of))]
+pub fn read_file(alloc: Global, bytes: &[u8]) -> Result<File, FileFault>
+    ensures { Gives result (file_of bytes.now) }
+{
+    let value = json_of(alloc, bytes)?;
+    file_of(alloc, &value)
+}
