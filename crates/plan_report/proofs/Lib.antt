@@ -1,3 +1,4 @@
 pub mod Legals
 pub mod Roots
 pub mod Plain
+pub mod Holdings

@@ -6,9 +6,10 @@ use Rattle.serde_json.specs.View.{view, items_of}
 use Rattle.serde_json.specs.Written.{has_float, members_have_float, items_have_float}
 use Rattle.serde_json.specs.declared.value.Value.{Value}
 use Rattle.dpe_base.specs.Queries.{JoinQuery}
+use Rattle.query_json.specs.declared.refusal.QueryRefusal.{QueryRefusal}
 use Rattle.join_tree.specs.Trees.{JoinTree, leaf, join}
 use Rattle.plan_report.specs.Entries.{PlannedQuery}
-use Rattle.plan_report.specs.Json.{plan_data, stats_member, planned_data, report_data, values_of, is_plain, are_plain}
+use Rattle.plan_report.specs.Json.{plan_data, stats_member, planned_data, refused_data, report_data, values_of, is_plain, are_plain}
 
 plan_plain : (kind : ℕ) (q : JoinQuery) (aliases : List (List ℕ)) (t : JoinTree) → has_float (plan_data kind q aliases t) ≡ false
 plan_plain kind q aliases (leaf r) = refl
@@ -20,6 +21,9 @@ stats_plain None = refl
 
 pub planned_plain : (v : Value) (e : PlannedQuery) → view v ≡ planned_data e → is_plain v ≡ true
 planned_plain v e is = rw (is, plan_plain e.kind e.query e.aliases e.tree, stats_plain e.stats) refl
+
+pub refused_plain : (v : Value) (name : List ℕ) (why : QueryRefusal) → view v ≡ refused_data name why → is_plain v ≡ true
+refused_plain v name why is = rw is refl
 
 pub plain_either : (ok : Bool) (vs : List Value) (v : Value) → are_plain vs ≡ true → is_plain v ≡ true → are_plain (cond ok (vs ++ v ∷ []) vs) ≡ true
 plain_either true vs v all one = rw (list_all-append is_plain vs (v ∷ []), all, one) refl

@@ -1,9 +1,9 @@
 -- What the best word of a set says of the root of its plan.
-use Rattle.std.proofs.Common.{◌≡◌, ◌≢◌, ℕ, ◌+◌, ◌*◌, ◌/◌, ◌%◌, ◌^◌, ◌≤◌, ◌<◌, arith, refl, sym, ◌∙◌, ap, subst, inl, inr, List, slice_index}
+use Rattle.std.proofs.Common.{◌≡◌, ◌≢◌, ℕ, ◌+◌, ◌*◌, ◌≤◌, ◌<◌, arith, refl, sym, ◌∙◌, ap, subst, inl, inr, List, slice_index}
 use Rattle.std.proofs.lemmas.Bool.{cases_eq}
-use Rattle.dpe_base.specs.declared.TheConstants.{COST_LIMIT, SPAN}
+use Rattle.dpe_base.specs.declared.TheConstants.{SPAN}
 use Rattle.dpe_base.specs.Queries.{JoinQuery, relations, IsQuery}
-use Rattle.dpe_base.specs.Sets.{Has, Within, Disjoint, IsLeast, union, minus, single, full, size}
+use Rattle.dpe_base.specs.Sets.{Within, Disjoint, IsLeast, union, minus, single, full, size}
 use Rattle.dpe_base.proofs.SetLaws.{sets, same_set, member-same}
 use Rattle.dpe_base.proofs.SizeLaws.{size-union, size-single, size-empty, size_one, size_none, union_add}
 use Rattle.join_graph.specs.Graphs.{Connected, graph_of}

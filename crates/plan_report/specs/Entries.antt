@@ -1,6 +1,7 @@
 -- What a report says of one query.
 use Rattle.std.specs.Prelude.{ℕ, List, Option}
 use Rattle.dpe_base.specs.Queries.{JoinQuery}
+use Rattle.query_json.specs.declared.refusal.QueryRefusal.{QueryRefusal}
 use Rattle.join_tree.specs.Trees.{JoinTree}
 use Rattle.plan_report.specs.declared.entry.Stats.{Stats}
 
@@ -14,3 +15,8 @@ pub record PlannedQuery : Type 0 where
   pub tree : JoinTree
   pub pairs : ℕ
   pub stats : Option Stats
+
+-- a query's plan, or its name and why it is refused
+pub data ReportEntry : Type 0 where
+  planned : PlannedQuery → ReportEntry
+  refused : List ℕ → QueryRefusal → ReportEntry

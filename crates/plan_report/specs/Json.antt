@@ -7,12 +7,14 @@ use Rattle.serde_json.specs.Written.{compact_text, has_float}
 use Rattle.serde_json.specs.declared.value.Value.{Value}
 use Rattle.dpe_base.specs.Queries.{JoinQuery, relations}
 use Rattle.dpe_base.specs.Sets.{single, full}
+use Rattle.query_json.specs.declared.refusal.QueryRefusal.{QueryRefusal}
+use Rattle.query_json.specs.Texts.{refusal_code, refusal_text}
 use Rattle.card_scaled.specs.Cards.{rows}
 use Rattle.join_tree.specs.Trees.{JoinTree, leaf, join, set_of, cost}
 use Rattle.plan_report.specs.declared.entry.Stats.{Stats}
 use Rattle.plan_report.specs.Texts.{newline}
 use Rattle.plan_report.specs.Names.{operator_name, enumerator_name}
-use Rattle.plan_report.specs.Entries.{PlannedQuery}
+use Rattle.plan_report.specs.Entries.{PlannedQuery, ReportEntry, planned, refused}
 
 abbrev pub count : ℕ → Data
 count n = number (unsigned n)
@@ -41,14 +43,22 @@ stats_member (Some s) = member (codes "stats") (stats_data s) no_members
 stats_member None = no_members
 
 -- the members of every accepted entry, and then the others
-abbrev pub entry_data : List ℕ → ℕ → ℕ → ℕ → Data → Members → Data
-entry_data name cost rows pairs plan others =
+abbrev pub accepted_data : List ℕ → ℕ → ℕ → ℕ → Data → Members → Data
+accepted_data name cost rows pairs plan others =
     object (member (codes "cost") (count cost) (member (codes "name") (string name) (member (codes "pairs") (count pairs)
     (member (codes "plan") plan (member (codes "rows") (count rows) others)))))
 
 abbrev pub planned_data : PlannedQuery → Data
 planned_data e =
-    entry_data e.name (cost e.kind e.query e.tree) (rows e.query (full (relations e.query))) e.pairs (plan_data e.kind e.query e.aliases e.tree) (stats_member e.stats)
+    accepted_data e.name (cost e.kind e.query e.tree) (rows e.query (full (relations e.query))) e.pairs (plan_data e.kind e.query e.aliases e.tree) (stats_member e.stats)
+
+abbrev pub refused_data : List ℕ → QueryRefusal → Data
+refused_data name why =
+    object (member (codes "code") (count (refusal_code why)) (member (codes "name") (string name) (member (codes "refusal") (string (refusal_text why)) no_members)))
+
+abbrev pub entry_data : ReportEntry → Data
+entry_data (planned e) = planned_data e
+entry_data (refused name why) = refused_data name why
 
 abbrev pub report_data : List Data → Data
 report_data entries = object (member (codes "queries") (array (items_of entries)) no_members)

@@ -2,11 +2,13 @@
 use Rattle.std.specs.Prelude.{ℕ, zero, suc, ◌+◌, max, List, [], ◌∷◌, ◌++◌, Option, Some, None, codes, decimal, slice_index_or}
 use Rattle.dpe_base.specs.Queries.{JoinQuery, relations}
 use Rattle.dpe_base.specs.Sets.{single, full}
+use Rattle.query_json.specs.declared.refusal.QueryRefusal.{QueryRefusal}
+use Rattle.query_json.specs.Texts.{refusal_code, refusal_text}
 use Rattle.card_scaled.specs.Cards.{rows}
 use Rattle.join_tree.specs.Trees.{JoinTree, leaf, join, set_of, cost}
 use Rattle.plan_report.specs.declared.entry.Stats.{Stats}
 use Rattle.plan_report.specs.Names.{operator_name, enumerator_name}
-use Rattle.plan_report.specs.Entries.{PlannedQuery}
+use Rattle.plan_report.specs.Entries.{PlannedQuery, ReportEntry, planned, refused}
 
 abbrev pub newline : List ℕ
 newline = 10 ∷ []
@@ -51,6 +53,16 @@ planned_text e =
     query_line e.name
     ++ (numbers_line (cost e.kind e.query e.tree) (rows e.query (full (relations e.query))) e.pairs
     ++ (plan_text e.kind e.query e.aliases 0 e.tree ++ stats_text e.stats))
+
+abbrev pub refused_line : QueryRefusal → List ℕ
+refused_line why = codes "refused " ++ (decimal (refusal_code why) ++ (codes ": " ++ (refusal_text why ++ newline)))
+
+abbrev pub refused_text : List ℕ → QueryRefusal → List ℕ
+refused_text name why = query_line name ++ refused_line why
+
+abbrev pub entry_text : ReportEntry → List ℕ
+entry_text (planned e) = planned_text e
+entry_text (refused name why) = refused_text name why
 
 -- how many joins stand above the deepest leaf
 abbrev pub height : JoinTree → ℕ

@@ -7,7 +7,7 @@ ghost use Rattle.dpe_base.specs.Queries.{relations};
 ghost use Rattle.join_graph.specs.Graphs.{graph_of};
 ghost use Rattle.join_tree.specs.Trees.{Legal, cost};
 ghost use Rattle.join_tree.specs.TreeOf.{tree_of};
-ghost use Rattle.plan_report.specs.Json.{entry_data, scan_data, join_data, stats_data, plan_data, planned_data, report_data, values_of};
+ghost use Rattle.plan_report.specs.Json.{accepted_data, scan_data, join_data, stats_data, plan_data, planned_data, refused_data, report_data, values_of};
 ghost use Rattle.plan_report.specs.Texts.{newline};
 
 use crate::entry::Stats;
@@ -16,6 +16,7 @@ use crate::numbers::{cost_of, rows_of, rows_of_all};
 use cost_model::CostModel;
 use dpe_base::{COST_LIMIT, Name, Query};
 use join_tree::Tree;
+use query_json::{QueryRefusal, write_refusal};
 use serde_json::{Value, json};
 use std::alloc::{AllocError, Global};
 
@@ -85,7 +86,7 @@ fn plain_value(
     pairs: u64,
     plan: Value,
 ) -> Result<Value, AllocError>
-    ensures { IfOk result (λ v. view v ≡ entry_data name.now cost rows pairs (view plan) no_members) }
+    ensures { IfOk result (λ v. view v ≡ accepted_data name.now cost rows pairs (view plan) no_members) }
 {
     json!(in alloc; {"cost": cost, "name": name, "pairs": pairs, "plan": plan, "rows": rows})
 }
@@ -100,7 +101,7 @@ fn counted_value(
     plan: Value,
     stats: Value,
 ) -> Result<Value, AllocError>
-    ensures { IfOk result (λ v. view v ≡ entry_data name.now cost rows pairs (view plan) (member (codes "stats") (view stats) no_members)) }
+    ensures { IfOk result (λ v. view v ≡ accepted_data name.now cost rows pairs (view plan) (member (codes "stats") (view stats) no_members)) }
 {
     json!(in alloc; {"cost": cost, "name": name, "pairs": pairs, "plan": plan, "rows": rows, "stats": stats})
 }
@@ -132,6 +133,16 @@ pub fn planned_value<M: CostModel>(
         }
         None => plain_value(alloc, name.text(), cost, rows, pairs, plan),
     }
+}
+
+/// The entry of a refused query.
+pub fn refused_value(alloc: Global, name: &Name, why: &QueryRefusal) -> Result<Value, AllocError>
+    ensures { IfOk result (λ v. view v ≡ refused_data name.now why.now) }
+{
+    let mut text = String::new(alloc);
+    write_refusal(&mut text, why)?;
+    let (code, name, refusal) = (why.code(), name.text(), text.as_str());
+    json!(in alloc; {"code": code, "name": name, "refusal": refusal})
 }
 
 /// The entries of a report as one object.

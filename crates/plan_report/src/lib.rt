@@ -2,7 +2,6 @@
 //! text or as JSON.
 #![tactic(auto)]
 
-
 mod entry;
 mod json;
 mod names;
@@ -11,8 +10,8 @@ mod plan;
 mod report;
 mod text;
 
-pub use plan::build;
 pub use entry::Stats;
+pub use plan::build;
 pub use report::{Format, Report};
 
 #[cfg(test)]

@@ -3,11 +3,12 @@ ghost use Rattle.std.specs.Prelude.{◌≡◌, true};
 ghost use Rattle.plan_report.specs.Json.{are_plain};
 
 use crate::entry::Stats;
-use crate::json::{line_of, planned_value, report_value};
-use crate::text::write_planned;
+use crate::json::{line_of, planned_value, refused_value, report_value};
+use crate::text::{write_planned, write_refused};
 use cost_model::CostModel;
 use dpe_base::{COST_LIMIT, Name, Query};
 use join_tree::Tree;
+use query_json::QueryRefusal;
 use serde_json::Value;
 use std::alloc::{AllocError, Global};
 
@@ -34,8 +35,9 @@ impl Report {
     ghost use Rattle.join_graph.specs.Graphs.{graph_of};
     ghost use Rattle.join_tree.specs.Trees.{Legal, cost};
     ghost use Rattle.join_tree.specs.TreeOf.{tree_of};
+    ghost use Rattle.plan_report.specs.Entries.{planned, refused};
     ghost use Rattle.plan_report.specs.Json.{report_line};
-    ghost use Rattle.plan_report.specs.Reports.{format_of, text_in, entries_in, AppendsPlanned, Keeps};
+    ghost use Rattle.plan_report.specs.Reports.{format_of, text_in, entries_in, Appends, Keeps};
 
     /// A report without entries. It takes no memory.
     pub fn new(alloc: Global, format: Format) -> Report
@@ -65,8 +67,8 @@ impl Report {
         requires named { length aliases.now ≡ relations query.now }
         requires legal { Legal M.KIND (graph_of query.now) (tree_of tree.now) }
         requires word { cost M.KIND query.now (tree_of tree.now) < COST_LIMIT }
-        ensures ok { OnOk result (AppendsPlanned self.old self.new
-            (record { name = name.now; aliases = aliases.now; kind = M.KIND; query = query.now; tree = tree_of tree.now; pairs = pairs; stats = stats })) }
+        ensures ok { OnOk result (Appends self.old self.new
+            (planned (record { name = name.now; aliases = aliases.now; kind = M.KIND; query = query.now; tree = tree_of tree.now; pairs = pairs; stats = stats }))) }
         ensures err { OnErr result (Keeps self.old self.new) }
     {
         match self.format {
@@ -76,8 +78,28 @@ impl Report {
                 self.text.push_str(entry.as_str())
             }
             Format::Json => {
-                let entry =
-                    planned_value(self.alloc, name, aliases, query, model, tree, pairs, stats)?;
+                let entry = planned_value(
+                    self.alloc, name, aliases, query, model, tree, pairs, stats,
+                )?;
+                self.entries.push(entry)?;
+                Ok(())
+            }
+        }
+    }
+
+    /// Appends the entry of a refused query.
+    pub fn refused(&mut self, name: &Name, why: &QueryRefusal) -> Result<(), AllocError>
+        ensures ok { OnOk result (Appends self.old self.new (refused name.now why.now)) }
+        ensures err { OnErr result (Keeps self.old self.new) }
+    {
+        match self.format {
+            Format::Text => {
+                let mut entry = String::new(self.alloc);
+                write_refused(&mut entry, name, why)?;
+                self.text.push_str(entry.as_str())
+            }
+            Format::Json => {
+                let entry = refused_value(self.alloc, name, why)?;
                 self.entries.push(entry)?;
                 Ok(())
             }

@@ -6,7 +6,7 @@ ghost use Rattle.join_graph.specs.Graphs.{graph_of};
 ghost use Rattle.card_scaled.specs.Cards.{rows};
 ghost use Rattle.join_tree.specs.Trees.{Legal, cost, set_of};
 ghost use Rattle.join_tree.specs.TreeOf.{tree_of};
-ghost use Rattle.plan_report.specs.Texts.{indent, query_line, numbers_line, scan_line, join_line, stats_line, stats_text, plan_text, planned_text, height};
+ghost use Rattle.plan_report.specs.Texts.{indent, query_line, numbers_line, scan_line, join_line, stats_line, stats_text, plan_text, planned_text, refused_text, height};
 
 use crate::entry::Stats;
 use crate::names::{enumerator_name, operator_name};
@@ -14,6 +14,7 @@ use crate::numbers::{cost_of, rows_of, rows_of_all};
 use cost_model::CostModel;
 use dpe_base::{COST_LIMIT, Name, Query};
 use join_tree::Tree;
+use query_json::{QueryRefusal, write_refusal};
 use std::alloc::AllocError;
 
 fn write_indent(out: &mut String, depth: u32) -> Result<(), AllocError>
@@ -48,7 +49,10 @@ fn write_stats(out: &mut String, stats: Stats) -> Result<(), AllocError>
         probes,
         ..
     } = stats;
-    writeln!(out, "stats {enumerator} buffer {buffer} buffers {buffers} rounds {rounds} probes {probes}")
+    writeln!(
+        out,
+        "stats {enumerator} buffer {buffer} buffers {buffers} rounds {rounds} probes {probes}"
+    )
 }
 
 fn write_plan<M: CostModel>(
@@ -106,4 +110,15 @@ pub fn write_planned<M: CostModel>(
         Some(stats) => write_stats(out, stats),
         None => Ok(()),
     }
+}
+
+/// Appends the entry of a refused query.
+pub fn write_refused(out: &mut String, name: &Name, why: &QueryRefusal) -> Result<(), AllocError>
+    ensures { OnOk result (string_bytes out.new ≡ string_bytes out.old ++ refused_text name.now why.now) }
+{
+    let (code, name) = (why.code(), name.text());
+    writeln!(out, "query {name}")?;
+    write!(out, "refused {code}: ")?;
+    write_refusal(out, why)?;
+    out.push('\n')
 }

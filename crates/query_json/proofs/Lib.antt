@@ -1,4 +1,4 @@
 pub mod Keys
 pub mod Lists
 pub mod Passes
-pub mod Text
+pub mod JsonLaws

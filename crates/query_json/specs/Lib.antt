@@ -3,3 +3,4 @@ pub mod Entries
 pub mod Names
 pub mod Parts
 pub mod Walk
+pub mod Texts

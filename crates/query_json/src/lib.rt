@@ -12,6 +12,7 @@ mod place;
 mod refusal;
 mod scope;
 mod tables;
+mod text;
 mod walk;
 
 pub use entries::{Entry, Named, Part, Workload, read};
@@ -19,3 +20,4 @@ pub use fault::FileFault;
 pub use items::Items;
 pub use place::{Place, Site};
 pub use refusal::{FracPlace, QueryRefusal};
+pub use text::{write_path, write_refusal};

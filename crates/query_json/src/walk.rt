@@ -178,7 +178,7 @@ fn file_of(alloc: Global, value: &Value) -> Result<File, FileFault>
     Ok(File { tables, queries })
 }
 
-#[tactic(auto, using(crate::proofs::Text::json_found, crate::proofs::Text::json_none))]
+#[tactic(auto, using(crate::proofs::JsonLaws::json_found, crate::proofs::JsonLaws::json_none))]
 fn json_of(alloc: Global, bytes: &[u8]) -> Result<Value, FileFault>
     ensures { GivesBy view result (json_at bytes.now) }
 {

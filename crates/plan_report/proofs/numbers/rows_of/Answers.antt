@@ -1,6 +1,5 @@
-use Rattle.std.proofs.Common.{◌≡◌, ◌≢◌, ◌≤◌, arith}
-use Rattle.dpe_base.specs.Sets.{Within, full}
-use Rattle.join_graph.specs.Graphs.{Connected, graph_of}
+use Rattle.std.proofs.Common.{arith}
+use Rattle.join_graph.specs.Graphs.{graph_of}
 use Rattle.join_tree.specs.TreeOf.{tree_of}
 use Rattle.join_tree.proofs.TreeLaws.{legal_connected}
 use Rattle.join_tree.proofs.TreeCosts.{legal_leaves}

@@ -1,4 +1,3 @@
-use Rattle.std.proofs.Common.{◌≡◌}
 use Rattle.plan_report.proofs.Roots.{plan_alone}
 use Rattle.plan_report.proofs.plan.+build.Goals as goal
 
