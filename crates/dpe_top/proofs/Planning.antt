@@ -8,12 +8,12 @@ use Rattle.std.proofs.lemmas.List.Elements.{Contains-append_left, Contains-appen
 use Rattle.dpe_base.specs.declared.TheConstants.{SPAN, EMPTY}
 use Rattle.dpe_base.specs.declared.pair.Pair.{Pair}
 use Rattle.dpe_base.specs.Queries.{JoinQuery, relations, IsQuery}
-use Rattle.dpe_base.specs.Sets.{Has, union, single, size, full}
+use Rattle.dpe_base.specs.Sets.{Has, Within, union, single, size, full}
 use Rattle.dpe_base.proofs.SizeLaws.{size-union, size-single, size_one, size_none, full_below, within_span}
 use Rattle.dpe_base.proofs.SetLaws.{single_has, single_one, full_has, full_limit}
 use Rattle.join_graph.specs.Graphs.{Connected, Pairs, graph_of}
 use Rattle.join_graph.proofs.GraphLaws.{connected_union, grown_pair}
-use Rattle.card_scaled.specs.Cards.{rows, IsCardTable}
+use Rattle.card_scaled.specs.Cards.{RowTable, rows, IsCardTable}
 use Rattle.cost_model.specs.Costs.{operators, join_cost}
 use Rattle.cost_model.specs.Words.{best_word, word_cost}
 use Rattle.cost_model.proofs.WordLaws.{best_below_is}
@@ -24,7 +24,8 @@ use Rattle.join_tree.proofs.BestLaws.{least_best, made_not_empty}
 use Rattle.join_tree.proofs.Substructure.{optimal_substructure, operators_few}
 use Rattle.join_tree.proofs.TreeCosts.{rows_bounds}
 use Rattle.pair_stream.specs.Orders.{Ordered, Complete}
-use Rattle.dpe_top.specs.Planning.{IsOpening, NoneOver, LowestOver, Lowered, MayLower, HasBestWords}
+use Rattle.dpe_top.specs.Planning.{IsOpening, NoneOver, LowestOver, Lowered, HasRows, MayLower, pair_word, lowered}
+use Rattle.plan_report.specs.Words.{HasBestWords}
 use Rattle.dpe_top.proofs.PairCount.{complete_few}
 
 some_size : (s : ℕ) → s ≢ 0 → 1 ≤ size s
@@ -244,12 +245,22 @@ module _ (kind : ℕ) (q : JoinQuery) (all : List Pair) (ok : IsQuery q) (comple
   lowered_best words s low c =
       (least_best kind q all s (slice_index words s) ok complete.members).0 (settled all [] words s (sym (append-nil all)) low c (λ r d over. d))
 
-  may_lower : (left : List Pair) (words cards : List ℕ) (count : ℕ) (p : Pair) → Walked kind q all (p ∷ left) words count → IsCardTable q cards → MayLower words cards p
-  may_lower left words cards count p w table =
+  has_rows : (table : RowTable) (s : ℕ) → IsCardTable q table → s ≢ 0 → Within s (full (relations q)) → HasRows table s
+  has_rows table s is some within =
+      let e : slice_index table.rows s ≡ rows q s = is.each s some within in
+      record {
+        some = some;
+        within = rw is.sized within;
+        low = rw e (rows_bounds q s).0;
+        high = rw e (rows_bounds q s).1;
+      }
+
+  may_lower : (left : List Pair) (words : List ℕ) (table : RowTable) (count : ℕ) (p : Pair) → Walked kind q all (p ∷ left) words count → IsCardTable q table → MayLower words table p
+  may_lower left words table count p w is =
       record {
         sets = (within_span p.a (relations q) h.first.within ok.few, within_span p.b (relations q) h.second.within ok.few);
         room = rw w.low.sized (full_below p.a (relations q) h.first.within, full_below p.b (relations q) h.second.within, (over_two p c).1);
-        rows = (table.sized ∙ sym w.low.sized, λ s l. rw (table.each s (rw table.sized at l)) (rows_bounds q s));
+        rows = (has_rows table p.a is h.first.some h.first.within, has_rows table p.b is h.second.some h.second.within, has_rows table (union p.a p.b) is whole.some whole.within);
         made = (λ e. made_not_empty kind q all p.a ok builds.within (subst (Made kind q all p.a) e ends.0.made), λ e. made_not_empty kind q all p.b ok builds.within (subst (Made kind q all p.b) e ends.1.made));
       }
     where
@@ -259,20 +270,22 @@ module _ (kind : ℕ) (q : JoinQuery) (all : List Pair) (ok : IsQuery q) (comple
       h : Pairs (graph_of q) p
       h = (complete.members p).0 c
 
+      whole : Connected (graph_of q) (union p.a p.b)
+      whole = connected_union (graph_of q) p.a p.b h.first h.second h.crossed
+
       ends : Least kind q all p.a (slice_index words p.a) × Least kind q all p.b (slice_index words p.b)
       ends = sides_settled w.first left words p w.split w.low
 
   -- what is asked at the next pair, over a slice of the words
-  pub may_lower_at : (rest left : List Pair) (words slice cards : List ℕ) (count : ℕ) (p : Pair) → rest ≡ p ∷ left → slice ≡ words
-      → Walked kind q all rest words count → IsCardTable q cards → MayLower slice cards p
-  may_lower_at rest left words slice cards count p took same w table =
-      subst (λ xs. MayLower xs cards p) (sym same) (may_lower left words cards count p (subst (λ ps. Walked kind q all ps words count) took w) table)
+  pub may_lower_at : (rest left : List Pair) (words slice : List ℕ) (table : RowTable) (count : ℕ) (p : Pair) → rest ≡ p ∷ left → slice ≡ words
+      → Walked kind q all rest words count → IsCardTable q table → MayLower slice table p
+  may_lower_at rest left words slice table count p took same w is =
+      subst (λ xs. MayLower xs table p) (sym same) (may_lower left words table count p (subst (λ ps. Walked kind q all ps words count) took w) is)
 
   -- one pair more
-  walked_more : (left : List Pair) (words cards now : List ℕ) (count : ℕ) (p : Pair) → Walked kind q all (p ∷ left) words count → IsCardTable q cards
-      → now ≡ slice_set words (union p.a p.b) (min (slice_index words (union p.a p.b)) (best_word kind p.a p.b (slice_index words p.a) (slice_index words p.b) (slice_index cards p.a) (slice_index cards p.b) (slice_index cards (union p.a p.b))))
-      → Walked kind q all left now (count + 1)
-  walked_more left words cards now count p w table e =
+  walked_more : (left : List Pair) (words now : List ℕ) (table : RowTable) (count : ℕ) (p : Pair) → Walked kind q all (p ∷ left) words count → IsCardTable q table
+      → now ≡ lowered kind words table p → Walked kind q all left now (count + 1)
+  walked_more left words now table count p w is e =
       record {
         first = w.first ++ (p ∷ []);
         split = w.split ∙ sym (append_assoc w.first (p ∷ []) left);
@@ -280,14 +293,14 @@ module _ (kind : ℕ) (q : JoinQuery) (all : List Pair) (ok : IsQuery q) (comple
         low = subst (Lowered kind q all (w.first ++ (p ∷ []))) (sym e) (lowered_more w.first left words p v w.split w.low (best_word_le kind p.a p.b _ _ _ _ _ ready.sets.0 ready.sets.1) split_word);
       }
     where
-      ready : MayLower words cards p
-      ready = may_lower left words cards count p w table
+      ready : MayLower words table p
+      ready = may_lower left words table count p w is
 
       v : ℕ
-      v = best_word kind p.a p.b (slice_index words p.a) (slice_index words p.b) (slice_index cards p.a) (slice_index cards p.b) (slice_index cards (union p.a p.b))
+      v = pair_word kind words table p
 
-      at_row : (s : ℕ) → s < length words → slice_index cards s ≡ rows q s
-      at_row s l = table.each s (rw w.low.sized at l)
+      at_row : (s : ℕ) → HasRows table s → slice_index table.rows s ≡ rows q s
+      at_row s has = is.each s has.some (rw (sym is.sized) has.within)
 
       ends : Least kind q all p.a (slice_index words p.a) × Least kind q all p.b (slice_index words p.b)
       ends = sides_settled w.first left words p w.split w.low
@@ -298,7 +311,7 @@ module _ (kind : ℕ) (q : JoinQuery) (all : List Pair) (ok : IsQuery q) (comple
         second = slice_index words p.b;
         least_first = ends.0;
         least_second = ends.1;
-        is = rw (at_row p.a ready.room.0, at_row p.b ready.room.1, at_row (union p.a p.b) ready.room.2) refl;
+        is = rw (at_row p.a ready.rows.0, at_row p.b ready.rows.1, at_row (union p.a p.b) ready.rows.2) refl;
       }
 
   -- all pairs
@@ -321,21 +334,14 @@ module _ (kind : ℕ) (q : JoinQuery) (all : List Pair) (ok : IsQuery q) (comple
   walked_few_at rest left words count p took w = walked_few left words count p (subst (λ ps. Walked kind q all ps words count) took w)
 
   -- after the step, where the slice is written back
-  pub walked_more_at : (rest left : List Pair) (words slice new cards : List ℕ) (count n : ℕ) (p : Pair) → rest ≡ p ∷ left → slice ≡ words → n ≡ length words
-      → Walked kind q all rest words count → IsCardTable q cards
-      → new ≡ slice_set slice (union p.a p.b) (min (slice_index slice (union p.a p.b)) (best_word kind p.a p.b (slice_index slice p.a) (slice_index slice p.b) (slice_index cards p.a) (slice_index cards p.b) (slice_index cards (union p.a p.b))))
+  pub walked_more_at : (rest left : List Pair) (words slice new : List ℕ) (table : RowTable) (count n : ℕ) (p : Pair) → rest ≡ p ∷ left → slice ≡ words → n ≡ length words
+      → Walked kind q all rest words count → IsCardTable q table → new ≡ lowered kind slice table p
       → Walked kind q all left (take n (new ++ drop (length new) words)) (count + 1)
-  walked_more_at rest left words slice new cards count n p took same sized w table is =
-      let set : new ≡ lowered_at words = subst (λ xs. new ≡ lowered_at xs) same is in
-      let len : length new ≡ length words = ap length set ∙ length-set words (union p.a p.b) (lowest words) in
+  walked_more_at rest left words slice new table count n p took same sized w is e =
+      let set : new ≡ lowered kind words table p = subst (λ xs. new ≡ lowered kind xs table p) same e in
+      let len : length new ≡ length words = ap length set ∙ length-set words (union p.a p.b) (min (slice_index words (union p.a p.b)) (pair_word kind words table p)) in
       subst (λ xs. Walked kind q all left xs (count + 1)) (sym (written_back n new words sized len))
-      (walked_more left words cards new count p (subst (λ ps. Walked kind q all ps words count) took w) table set)
-    where
-      lowest : List ℕ → ℕ
-      lowest xs = min (slice_index xs (union p.a p.b)) (best_word kind p.a p.b (slice_index xs p.a) (slice_index xs p.b) (slice_index cards p.a) (slice_index cards p.b) (slice_index cards (union p.a p.b)))
-
-      lowered_at : List ℕ → List ℕ
-      lowered_at xs = slice_set xs (union p.a p.b) (lowest xs)
+      (walked_more left words new table count p (subst (λ ps. Walked kind q all ps words count) took w) is set)
 
   pub walked_best_at : (rest : List Pair) (words : List ℕ) (count : ℕ) → rest ≡ [] → Walked kind q all rest words count → (length words ≡ 2 ^ relations q) × HasBestWords kind q words (full (relations q)) × (count ≡ length all)
   walked_best_at rest words count none w = walked_best words count (subst (λ ps. Walked kind q all ps words count) none w)

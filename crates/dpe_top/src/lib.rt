@@ -1,12 +1,19 @@
 //! The top call: it answers the words of the command line over a workload.
 #![tactic(auto)]
 
+mod call;
 mod gate;
+mod lines;
 mod planner;
+mod reply;
+mod report;
 mod status;
+mod stub;
 mod words;
 
+pub use call::dpe;
 pub use gate::{Gate, OpenGate};
-pub use planner::{Solved, words_over};
 pub use status::Status;
-pub use words::model_of;
+
+/// The most bytes of a workload.
+pub const INPUT_MAX: usize = 8_388_608;

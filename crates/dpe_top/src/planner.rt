@@ -6,7 +6,8 @@ ghost use Rattle.dpe_base.specs.Sets.{union, full};
 ghost use Rattle.join_graph.specs.Graphs.{graph_of};
 ghost use Rattle.cost_model.specs.Words.{best_word};
 ghost use Rattle.pair_stream.specs.Orders.{Complete, Ordered};
-ghost use Rattle.dpe_top.specs.Planning.{IsOpening, MayLower, HasBestWords};
+ghost use Rattle.dpe_top.specs.Planning.{IsOpening, MayLower, lowered};
+ghost use Rattle.plan_report.specs.Words.{HasBestWords};
 
 use card_scaled::CardTable;
 use cost_model::{CostModel, best_split};
@@ -38,9 +39,7 @@ fn opening_words(alloc: Global, n: u8) -> Result<Vec<u64>, AllocError>
 /// Lowers the word of the pair's union to the pair's least word.
 fn lower<M: CostModel>(words: &mut [u64], model: &M, cards: &CardTable, pair: Pair)
     requires ready { MayLower words.old cards.now pair }
-    ensures { words.new ≡ slice_set words.old (union pair.a pair.b) (min (slice_index words.old (union pair.a pair.b))
-        (best_word M.KIND pair.a pair.b (slice_index words.old pair.a) (slice_index words.old pair.b)
-        (slice_index cards.now pair.a) (slice_index cards.now pair.b) (slice_index cards.now (union pair.a pair.b)))) }
+    ensures { words.new ≡ lowered M.KIND words.old cards.now pair }
 {
     let all = pair.a.union(pair.b);
     let (wa, wb) = (words[pair.a.bits() as usize], words[pair.b.bits() as usize]);
