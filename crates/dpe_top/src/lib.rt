@@ -9,10 +9,13 @@ mod reply;
 mod report;
 mod status;
 mod stub;
+#[cfg(test)]
+mod tests;
 mod words;
 
 pub use call::dpe;
 pub use gate::{Gate, OpenGate};
+pub use lines::usage_line;
 pub use status::Status;
 
 /// The most bytes of a workload.
