@@ -4,65 +4,76 @@ use crate::Status;
 use std::alloc::{AllocError, Global};
 use std::test::Fail;
 
+/// A query over tables of the same names, and the report of its plan.
+struct Case {
+    words: &'static [&'static str],
+    name: &'static str,
+    relations: &'static [(&'static str, u64)],
+    joins: &'static [(&'static str, &'static str, u64, u64)],
+    text: &'static str,
+}
+
+static CASES: [Case; 7] = [
+    Case {
+        words: &["--model", "cout"],
+        name: "first",
+        relations: &[("a", 100), ("b", 1000), ("c", 10)],
+        joins: &[("a", "b", 1, 100), ("b", "c", 1, 100)],
+        text: "query first\ncost 200 rows 100 pairs 4\njoin rows 100 cost 200\n  scan a rows 100\n  join rows 100 cost 100\n    scan b rows 1000\n    scan c rows 10\n",
+    },
+    Case {
+        words: &[],
+        name: "pair",
+        relations: &[("a", 100), ("b", 1000)],
+        joins: &[("a", "b", 1, 1000)],
+        text: "query pair\ncost 1300 rows 100 pairs 1\nhash rows 100 cost 1300\n  scan a rows 100\n  scan b rows 1000\n",
+    },
+    Case {
+        words: &["--model", "ops"],
+        name: "even",
+        relations: &[("a", 10), ("b", 10)],
+        joins: &[("a", "b", 1, 1)],
+        text: "query even\ncost 130 rows 100 pairs 1\nhash rows 100 cost 130\n  scan a rows 10\n  scan b rows 10\n",
+    },
+    Case {
+        words: &[],
+        name: "tie",
+        relations: &[("a", 4), ("b", 2)],
+        joins: &[("a", "b", 1, 1)],
+        text: "query tie\ncost 16 rows 8 pairs 1\nhash rows 8 cost 16\n  scan b rows 2\n  scan a rows 4\n",
+    },
+    Case {
+        words: &[],
+        name: "three",
+        relations: &[("a", 10), ("b", 10), ("c", 10)],
+        joins: &[("a", "b", 1, 10), ("b", "c", 1, 10)],
+        text: "query three\ncost 80 rows 10 pairs 4\nhash rows 10 cost 80\n  scan a rows 10\n  hash rows 10 cost 40\n    scan b rows 10\n    scan c rows 10\n",
+    },
+    Case {
+        words: &["--model", "cout"],
+        name: "bushy",
+        relations: &[("a", 1000), ("b", 1000), ("c", 1000), ("d", 1000)],
+        joins: &[("a", "b", 1, 100000), ("b", "c", 1, 1), ("c", "d", 1, 100000)],
+        text: "query bushy\ncost 120 rows 100 pairs 10\njoin rows 100 cost 120\n  join rows 10 cost 10\n    scan a rows 1000\n    scan b rows 1000\n  join rows 10 cost 10\n    scan c rows 1000\n    scan d rows 1000\n",
+    },
+    Case {
+        words: &["--model", "cout"],
+        name: "centre",
+        relations: &[("a", 1048576), ("b", 1048576), ("c", 1048576), ("f", 1073741824)],
+        joins: &[("a", "f", 1, 1048576), ("b", "f", 1, 1048576), ("c", "f", 1, 1048576)],
+        text: "query centre\ncost 3221225472 rows 1073741824 pairs 12\njoin rows 1073741824 cost 3221225472\n  scan a rows 1048576\n  join rows 1073741824 cost 2147483648\n    scan b rows 1048576\n    join rows 1073741824 cost 1073741824\n      scan c rows 1048576\n      scan f rows 1073741824\n",
+    },
+];
+
 #[test]
 fn small_queries_get_their_best_plans(rt: HostRuntime) -> Result<(), Fail> {
-    let cases: [(&[&str], &str, &[(&str, u64)], &[(&str, &str, u64, u64)], &str); 7] = [
-        (
-            &["--model", "cout"],
-            "first",
-            &[("a", 100), ("b", 1000), ("c", 10)],
-            &[("a", "b", 1, 100), ("b", "c", 1, 100)],
-            "query first\ncost 200 rows 100 pairs 4\njoin rows 100 cost 200\n  scan a rows 100\n  join rows 100 cost 100\n    scan b rows 1000\n    scan c rows 10\n",
-        ),
-        (
-            &[],
-            "pair",
-            &[("a", 100), ("b", 1000)],
-            &[("a", "b", 1, 1000)],
-            "query pair\ncost 1300 rows 100 pairs 1\nhash rows 100 cost 1300\n  scan a rows 100\n  scan b rows 1000\n",
-        ),
-        (
-            &["--model", "ops"],
-            "even",
-            &[("a", 10), ("b", 10)],
-            &[("a", "b", 1, 1)],
-            "query even\ncost 130 rows 100 pairs 1\nhash rows 100 cost 130\n  scan a rows 10\n  scan b rows 10\n",
-        ),
-        (
-            &[],
-            "tie",
-            &[("a", 4), ("b", 2)],
-            &[("a", "b", 1, 1)],
-            "query tie\ncost 16 rows 8 pairs 1\nhash rows 8 cost 16\n  scan b rows 2\n  scan a rows 4\n",
-        ),
-        (
-            &[],
-            "three",
-            &[("a", 10), ("b", 10), ("c", 10)],
-            &[("a", "b", 1, 10), ("b", "c", 1, 10)],
-            "query three\ncost 80 rows 10 pairs 4\nhash rows 10 cost 80\n  scan a rows 10\n  hash rows 10 cost 40\n    scan b rows 10\n    scan c rows 10\n",
-        ),
-        (
-            &["--model", "cout"],
-            "bushy",
-            &[("a", 1000), ("b", 1000), ("c", 1000), ("d", 1000)],
-            &[("a", "b", 1, 100000), ("b", "c", 1, 1), ("c", "d", 1, 100000)],
-            "query bushy\ncost 120 rows 100 pairs 10\njoin rows 100 cost 120\n  join rows 10 cost 10\n    scan a rows 1000\n    scan b rows 1000\n  join rows 10 cost 10\n    scan c rows 1000\n    scan d rows 1000\n",
-        ),
-        (
-            &["--model", "cout"],
-            "centre",
-            &[("a", 1048576), ("b", 1048576), ("c", 1048576), ("f", 1073741824)],
-            &[("a", "f", 1, 1048576), ("b", "f", 1, 1048576), ("c", "f", 1, 1048576)],
-            "query centre\ncost 3221225472 rows 1073741824 pairs 12\njoin rows 1073741824 cost 3221225472\n  scan a rows 1048576\n  join rows 1073741824 cost 2147483648\n    scan b rows 1048576\n    join rows 1073741824 cost 1073741824\n      scan c rows 1048576\n      scan f rows 1073741824\n",
-        ),
-    ];
     let alloc = rt.alloc();
-    for (words, name, relations, joins, text) in cases {
-        let file = file_of(alloc, name, relations, joins)?;
-        let (status, written) = answer(&rt, alloc, words, file.into_bytes())?;
+    for case in &CASES {
+        let name = case.name;
+        let file = file_of(alloc, name, case.relations, case.joins)?;
+        let (status, written) = answer(&rt, alloc, case.words, file.into_bytes())?;
         assert_eq!(rt; status, Status::Done, "{name}");
-        assert_eq!(rt; written.as_slice(), text.as_bytes(), "{name}");
+        assert_eq!(rt; written.as_slice(), case.text.as_bytes(), "{name}");
     }
     Ok(())
 }
