@@ -28,7 +28,11 @@ fn reply_to_bytes(alloc: Global, model: ModelKind, bytes: &[u8]) -> Result<Reply
 {
     match crate::stub::read(alloc, bytes) {
         Ok(workload) => Ok(Reply {
-            status: if has_refused(&workload) { Status::SomeRefused } else { Status::Done },
+            status: if has_refused(&workload) {
+                Status::SomeRefused
+            } else {
+                Status::Done
+            },
             text: report_of(alloc, &workload, model)?,
         }),
         Err(FileFault::NoMemory) => Err(AllocError),
@@ -103,7 +107,8 @@ pub fn dpe<R: Threads + Sync, S: Source, K: Sink, G: Gate>(
     ensures read_fault { result ≡ Status.ReadFault → IsSome (model_of (texts_of words.now))
         × Rose (S.faults source.old) (S.faults source.new) × (S.sure source.old ≡ false) × Keeps (K.held sink.old) (K.held sink.new) }
     ensures write_fault { result ≡ Status.WriteFault → Rose (K.faults sink.old) (K.faults sink.new)
-        × ((text : List ℕ) × IfSome (S.left source.old) (λ bytes. IsText (answer (texts_of words.now) bytes) text)
+        × ((text : List ℕ) × (IsNone (model_of (texts_of words.now)) → text ≡ usage_line)
+        × IfSome (S.left source.old) (λ bytes. IsText (answer (texts_of words.now) bytes) text)
         × (K.sure sink.old < length text)
         × ((n : ℕ) × (n < length text) × Appends (K.held sink.old) (K.held sink.new) (take n text))) }
     ensures memory { result ≡ Status.NoMemory → Keeps (K.held sink.old) (K.held sink.new) }

@@ -26,6 +26,13 @@ fn answer<R: Threads + Sync>(
     let words = words_of(alloc, words)?;
     let mut source = MemSource::new(bytes, 64, Vec::new(alloc));
     let mut sink = MemSink::new(alloc, 8192, 64, Vec::new(alloc))?;
-    let status = dpe(rt, alloc, words.as_slice(), &mut source, &mut sink, &OpenGate);
+    let status = dpe(
+        rt,
+        alloc,
+        words.as_slice(),
+        &mut source,
+        &mut sink,
+        &OpenGate,
+    );
     Ok((status, sink.written().to_vec(alloc)?))
 }

@@ -17,13 +17,19 @@ pub fn file_of(
     write!(file, "],\"queries\":[{{\"name\":\"{name}\",\"relations\":[")?;
     between = "";
     for (alias, _) in relations {
-        write!(file, "{between}{{\"alias\":\"{alias}\",\"table\":\"{alias}\"}}")?;
+        write!(
+            file,
+            "{between}{{\"alias\":\"{alias}\",\"table\":\"{alias}\"}}"
+        )?;
         between = ",";
     }
     write!(file, "],\"joins\":[")?;
     between = "";
     for (left, right, num, den) in joins {
-        write!(file, "{between}{{\"left\":\"{left}\",\"right\":\"{right}\",\"selectivity\":[{num},{den}]}}")?;
+        write!(
+            file,
+            "{between}{{\"left\":\"{left}\",\"right\":\"{right}\",\"selectivity\":[{num},{den}]}}"
+        )?;
         between = ",";
     }
     write!(file, "]}}]}}")?;
@@ -53,7 +59,10 @@ pub fn numbered_file(
     write!(file, "],\"joins\":[")?;
     between = "";
     for (left, right) in joins {
-        write!(file, "{between}{{\"left\":\"r{left}\",\"right\":\"r{right}\",\"selectivity\":[1,1]}}")?;
+        write!(
+            file,
+            "{between}{{\"left\":\"r{left}\",\"right\":\"r{right}\",\"selectivity\":[1,1]}}"
+        )?;
         between = ",";
     }
     write!(file, "]}}]}}")?;

@@ -53,14 +53,27 @@ static CASES: [Case; 7] = [
         words: &["--model", "cout"],
         name: "bushy",
         relations: &[("a", 1000), ("b", 1000), ("c", 1000), ("d", 1000)],
-        joins: &[("a", "b", 1, 100000), ("b", "c", 1, 1), ("c", "d", 1, 100000)],
+        joins: &[
+            ("a", "b", 1, 100000),
+            ("b", "c", 1, 1),
+            ("c", "d", 1, 100000),
+        ],
         text: "query bushy\ncost 120 rows 100 pairs 10\njoin rows 100 cost 120\n  join rows 10 cost 10\n    scan a rows 1000\n    scan b rows 1000\n  join rows 10 cost 10\n    scan c rows 1000\n    scan d rows 1000\n",
     },
     Case {
         words: &["--model", "cout"],
         name: "centre",
-        relations: &[("a", 1048576), ("b", 1048576), ("c", 1048576), ("f", 1073741824)],
-        joins: &[("a", "f", 1, 1048576), ("b", "f", 1, 1048576), ("c", "f", 1, 1048576)],
+        relations: &[
+            ("a", 1048576),
+            ("b", 1048576),
+            ("c", 1048576),
+            ("f", 1073741824),
+        ],
+        joins: &[
+            ("a", "f", 1, 1048576),
+            ("b", "f", 1, 1048576),
+            ("c", "f", 1, 1048576),
+        ],
         text: "query centre\ncost 3221225472 rows 1073741824 pairs 12\njoin rows 1073741824 cost 3221225472\n  scan a rows 1048576\n  join rows 1073741824 cost 2147483648\n    scan b rows 1048576\n    join rows 1073741824 cost 1073741824\n      scan c rows 1048576\n      scan f rows 1073741824\n",
     },
 ];
@@ -121,7 +134,15 @@ fn sixteen_relations_are_planned(rt: HostRuntime) -> Result<(), Fail> {
     let centre_late: [u8; 16] = [1, 2, 3, 4, 5, 6, 7, 8, 9, 10, 11, 12, 13, 14, 0, 15];
     let many = 1_099_511_627_776;
     let cases: [(&str, &[(u8, u8)], u64, &[u8], &str, u64, u64); 3] = [
-        ("chain", chain.as_slice(), many, &ascending, "hash", 4 * many, 680),
+        (
+            "chain",
+            chain.as_slice(),
+            many,
+            &ascending,
+            "hash",
+            4 * many,
+            680,
+        ),
         ("cycle", cycle.as_slice(), 1, &ascending, "loop", 2, 1800),
         ("star", star.as_slice(), 1, &centre_late, "loop", 2, 245760),
     ];
@@ -174,8 +195,14 @@ fn columns_and_filters_count(rt: HostRuntime) -> Result<(), Fail> {
             TRADE,
             "query top\ncost 7160040 rows 120000 pairs 35\nhash rows 120000 cost 7160040\n  hash rows 120000 cost 6600040\n    hash rows 30000 cost 420040\n      hash rows 30000 cost 180040\n        loop rows 5 cost 30\n          scan r rows 1\n          scan n rows 25\n        scan c rows 150000\n      scan o rows 150000\n    scan l rows 6000000\n  scan p rows 200000\n",
         ),
-        (BOTH, "query both\ncost 4000 rows 1000 pairs 1\nhash rows 1000 cost 4000\n  scan a rows 1000\n  scan b rows 1000\n"),
-        (ZERO, "query zero\ncost 20 rows 10 pairs 1\nloop rows 10 cost 20\n  scan a rows 1\n  scan b rows 10\n"),
+        (
+            BOTH,
+            "query both\ncost 4000 rows 1000 pairs 1\nhash rows 1000 cost 4000\n  scan a rows 1000\n  scan b rows 1000\n",
+        ),
+        (
+            ZERO,
+            "query zero\ncost 20 rows 10 pairs 1\nloop rows 10 cost 20\n  scan a rows 1\n  scan b rows 10\n",
+        ),
         ("{\"tables\":[],\"queries\":[]}", ""),
     ];
     for (file, text) in cases {
