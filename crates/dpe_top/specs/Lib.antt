@@ -4,4 +4,3 @@ pub mod Reports
 pub mod Lines
 pub mod Reply
 pub mod Replies
-pub mod Stub

@@ -4,8 +4,8 @@ use Rattle.std.specs.Io.KnownBytes.{Consumes, IsAtEnd}
 use Rattle.io_edge.specs.Causes.{Rose}
 use Rattle.cost_model.specs.declared.model.ModelKind.{ModelKind}
 use Rattle.query_json.specs.declared.fault.FileFault.{FileFault}
-use Rattle.query_json.specs.declared.entries.Entry.{Entry}
-use Rattle.dpe_top.specs.Stub.{entries_of}
+use Rattle.query_json.specs.declared.entry.Entry.{Entry}
+use Rattle.query_json.specs.Entries.{entries_of}
 use Rattle.dpe_top.specs.declared.TheConstants.{INPUT_MAX}
 use Rattle.dpe_top.specs.declared.status.Status.{Status}
 use Rattle.dpe_top.specs.declared.status.Status.TheVariants.{Done, SomeRefused, Usage, Input, ReadFault, WriteFault, NoMemory}

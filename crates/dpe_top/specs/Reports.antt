@@ -7,10 +7,10 @@ use Rattle.dpe_base.specs.Sets.{full}
 use Rattle.join_graph.specs.Graphs.{Connected, graph_of}
 use Rattle.join_tree.specs.Trees.{Plan}
 use Rattle.pair_stream.specs.Orders.{Complete}
-use Rattle.query_json.specs.declared.entries.Entry.{Entry}
-use Rattle.query_json.specs.declared.entries.Named.{Named}
-use Rattle.query_json.specs.declared.entries.Part.{Part}
-use Rattle.query_json.specs.declared.entries.Part.TheVariants.{Accepted, Refused}
+use Rattle.query_json.specs.declared.entry.Entry.{Entry}
+use Rattle.query_json.specs.declared.entry.Named.{Named}
+use Rattle.query_json.specs.declared.entry.Part.{Part}
+use Rattle.query_json.specs.declared.entry.Part.TheVariants.{Accepted, Refused}
 use Rattle.plan_report.specs.declared.report.Format.TheVariants.{Text}
 use Rattle.plan_report.specs.Entries.{PlannedQuery, ReportEntry, planned, refused}
 use Rattle.plan_report.specs.Reports.{report_bytes}
@@ -43,12 +43,3 @@ is_refused entry = elim entry.part [ Accepted named ↦ false | Refused why ↦ 
 
 abbrev pub has_refused : List Entry → Bool
 has_refused entries = list_any is_refused entries
-
--- an accepted query is connected, and has an alias for each relation
-abbrev pub IsSoundPart : Part → Type 0
-IsSoundPart (Accepted named) =
-    Connected (graph_of named.query) (full (relations named.query)) × (length named.aliases ≡ relations named.query)
-IsSoundPart (Refused why) = Unit {0}
-
-abbrev pub AreSound : List Entry → Type 0
-AreSound entries = All (λ entry. IsSoundPart entry.part) entries

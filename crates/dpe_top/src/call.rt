@@ -26,7 +26,7 @@ fn reply_to_bytes(alloc: Global, model: ModelKind, bytes: &[u8]) -> Result<Reply
     ensures said { IfOk result (Replies (answer_of_bytes model bytes.now)) }
     ensures whole { IfOk result (λ r. IsWhole r.status) }
 {
-    match crate::stub::read(alloc, bytes) {
+    match query_json::read(alloc, bytes) {
         Ok(workload) => Ok(Reply {
             status: if has_refused(&workload) {
                 Status::SomeRefused

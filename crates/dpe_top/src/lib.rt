@@ -8,7 +8,6 @@ mod planner;
 mod reply;
 mod report;
 mod status;
-mod stub;
 #[cfg(test)]
 mod tests;
 mod words;

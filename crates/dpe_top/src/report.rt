@@ -5,7 +5,8 @@ ghost use Rattle.dpe_base.specs.Sets.{full};
 ghost use Rattle.join_graph.specs.Graphs.{Connected, graph_of};
 ghost use Rattle.plan_report.specs.Entries.{PlannedQuery, ReportEntry, planned};
 ghost use Rattle.plan_report.specs.Reports.{Appends};
-ghost use Rattle.dpe_top.specs.Reports.{AreSound, IsPart, IsPlanned, IsReport, IsSoundPart, has_refused, is_refused};
+ghost use Rattle.query_json.specs.Sound.{IsEntrySound, IsSound};
+ghost use Rattle.dpe_top.specs.Reports.{IsPart, IsPlanned, IsReport, has_refused, is_refused};
 ghost use Rattle.dpe_top.specs.Words.{kind_of};
 
 use crate::planner::words_over;
@@ -27,8 +28,7 @@ fn append_planned<M: CostModel>(
     named: &Named,
     model: &M,
 ) -> Result<(), AllocError>
-    requires connected { Connected (graph_of named.now.query) (full (relations named.now.query)) }
-    requires aliases { length named.now.aliases ≡ relations named.now.query }
+    requires sound { IsSound named.now }
     ensures { OnOk result ((said : PlannedQuery) × IsPlanned M.KIND name.now named.now said
         × Appends report.old report.new (planned said)) }
 {
@@ -48,7 +48,7 @@ fn append_entry<M: CostModel>(
     entry: &Entry,
     model: &M,
 ) -> Result<(), AllocError>
-    requires sound { IsSoundPart entry.now.part }
+    requires sound { IsEntrySound entry.now }
     ensures { OnOk result ((said : ReportEntry) × IsPart M.KIND entry.now.name entry.now.part said
         × Appends report.old report.new said) }
 {
@@ -64,8 +64,7 @@ fn report_under<M: CostModel>(
     workload: &Workload,
     model: &M,
 ) -> Result<Vec<u8>, AllocError>
-    requires sound { AreSound workload.now.entries }
-    ensures { IfOk result (λ v. IsReport M.KIND workload.now.entries v.items) }
+    ensures { IfOk result (λ v. IsReport M.KIND workload.now v.items) }
 {
     let mut report = Report::new(alloc, Format::Text);
     for i in 0..workload.len() {
@@ -80,8 +79,7 @@ pub fn report_of(
     workload: &Workload,
     model: ModelKind,
 ) -> Result<Vec<u8>, AllocError>
-    requires sound { AreSound workload.now.entries }
-    ensures { IfOk result (λ v. IsReport (kind_of model) workload.now.entries v.items) }
+    ensures { IfOk result (λ v. IsReport (kind_of model) workload.now v.items) }
 {
     match model {
         ModelKind::Ops => report_under(alloc, workload, &Ops),
@@ -100,7 +98,7 @@ fn is_refused(entry: &Entry) -> bool
 
 /// Whether some query of the workload is refused.
 pub fn has_refused(workload: &Workload) -> bool
-    ensures { result ≡ has_refused workload.now.entries }
+    ensures { result ≡ has_refused workload.now }
 {
     for i in 0..workload.len() {
         if is_refused(workload.entry(i)) {
