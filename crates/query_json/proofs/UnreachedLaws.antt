@@ -1,13 +1,13 @@
 -- A relation that no walk reaches is parted from the first by a set that no predicate leads out of.
 use Rattle.std.proofs.Common.{◌≡◌, ◌≢◌, ◌∙◌, ℕ, zero, suc, ◌+◌, ◌^◌, ◌<◌, ◌≤◌, Bool, true, false, ◌==◌, ◌&&◌, ◌⊎◌, inl, inr, List, [], ◌∷◌, length, get_or, zero-add, Option, Some, None, slice_get, arith, refl, sym, ap, subst}
-use Rattle.std.specs.Prelude.{find}
+use Rattle.std.specs.Prelude.{Any, find, position}
 use Rattle.std.specs.List.{list_all, list_any, range_with_len, position_or_len}
-use Rattle.std.proofs.lemmas.Bool.{cases_Bool, cases_eq, cases_lt, and_parts, eqb-true, eq-eqb, eqb-false, ne_eqb}
+use Rattle.std.proofs.lemmas.Bool.{cases_Bool, cases_eq, cases_lt, and_parts, eqb-true, eq-eqb, lt-ltb}
 use Rattle.std.proofs.lemmas.List.FromFn.{get_or-range_with_len, length-range_with_len}
 use Rattle.std.proofs.lemmas.List.Folds.{Any-from_list_any, find_at, list_any_at}
-use Rattle.std.proofs.lemmas.List.Sums.{position_or_len_is}
-use Rattle.std.proofs.lemmas.Option.{slice_get_past, slice_get_read}
-use Rattle.dpe_base.specs.declared.TheConstants.{N_MAX}
+use Rattle.std.proofs.lemmas.List.Sums.{AllPass-from_list_all, fails_before_first, position_or_len_is}
+use Rattle.std.proofs.lemmas.List.Quantifiers.{position-Some}
+use Rattle.std.proofs.lemmas.Option.{get_or_from_slice_get, slice_get-get_or, slice_get_past, slice_get_read, slice_get_within}
 use Rattle.dpe_base.specs.declared.query.Pred.{Pred}
 use Rattle.dpe_base.specs.Queries.{JoinQuery, IsQuery, relations}
 use Rattle.dpe_base.specs.Sets.{Has, Within, Disjoint, member, union, minus, single, full}
@@ -15,28 +15,29 @@ use Rattle.dpe_base.proofs.SetLaws.{sets, same_set, member-same, member-minus, m
 use Rattle.dpe_base.proofs.NextSubset.{within_le}
 use Rattle.dpe_base.proofs.SizeLaws.{some_member, union_add, full_below}
 use Rattle.join_graph.specs.Graphs.{JoinGraph, Edge, Crossed, Connected, IsGraph, IsFirstUnreached, Reached, start, step, graph_of}
-use Rattle.join_graph.proofs.Edges.{Ends, SomeEnds, edge_of, of_edge, graph_is}
+use Rattle.join_graph.specs.Laws.{Ends}
+use Rattle.join_graph.proofs.Crossings.{edge_iff}
+use Rattle.join_graph.proofs.Edges.{graph_is}
+use Rattle.join_graph.proofs.GraphLaws.{crossed_back}
+use Rattle.query_json.specs.Laws.{FirstUnreachedByWalks}
 use Rattle.query_json.specs.Unreached.{is_closed, parts_from, is_unreached, first_unreached}
 
 -- ---- walks stay in a set that no predicate leads out of
 
-ends_stay : (s : ℕ) (preds : List Pred) (r t : ℕ) → list_all (λ p. member s p.low == member s p.high) preds ≡ true → SomeEnds preds r t → member s r ≡ member s t
-ends_stay s [] r t all e = absurd e
-ends_stay s (p ∷ ps) r t all e =
-    let parts : (member s p.low == member s p.high ≡ true) × (list_all (λ p. member s p.low == member s p.high) ps ≡ true) = and_parts _ _ all in
-    let same : member s p.low ≡ member s p.high = eqb-true _ _ parts.0 in
-    elim e [
-      | inl x ↦ elim x [ inl y ↦ ap (member s) (sym y.0) ∙ same ∙ ap (member s) y.1 | inr y ↦ ap (member s) (sym y.0) ∙ sym same ∙ ap (member s) y.1 ]
-      | inr x ↦ ends_stay s ps r t parts.1 x
+edge_stays : (q : JoinQuery) (s r t : ℕ) → IsQuery q → is_closed q s ≡ true → Edge (graph_of q) r t → member s r ≡ member s t
+unfolding is_closed
+edge_stays q s r t ok closed e =
+    let a : Any (λ p. Ends p r t) q.preds = (edge_iff q r t ok).0 e in
+    let at : get_or q.preds a.0 a.1 ≡ a.1 = a.3 in
+    let same : member s a.1.low ≡ member s a.1.high = eqb-true _ _ (rw at at (AllPass-from_list_all (λ p. member s p.low == member s p.high) q.preds closed a.0 a.1 a.2)) in
+    elim a.4 [
+      | inl y ↦ ap (member s) (sym y.0) ∙ same ∙ ap (member s) y.1
+      | inr y ↦ ap (member s) (sym y.0) ∙ sym same ∙ ap (member s) y.1
     ]
 
-edge_stays : (q : JoinQuery) (s r t : ℕ) → is_closed q s ≡ true → Edge (graph_of q) r t → member s r ≡ member s t
-unfolding is_closed
-edge_stays q s r t closed e = ends_stay s q.preds r t closed (edge_of q r t e)
-
-walk_stays : (q : JoinQuery) (s r : ℕ) → is_closed q s ≡ true → Has s 0 → Reached (graph_of q) 0 r → Has s r
-walk_stays q s r closed has start = has
-walk_stays q s r closed has (step k r' w e) = sym (edge_stays q s k r' closed e) ∙ walk_stays q s k closed has w
+walk_stays : (q : JoinQuery) (s r : ℕ) → IsQuery q → is_closed q s ≡ true → Has s 0 → Reached (graph_of q) 0 r → Has s r
+walk_stays q s r ok closed has start = has
+walk_stays q s r ok closed has (step k r' w e) = sym (edge_stays q s k r' ok closed e) ∙ walk_stays q s k ok closed has w
 
 record Parts (q : JoinQuery) (r s : ℕ) : Type 0 where
   pub within : s < 2 ^ relations q
@@ -64,26 +65,22 @@ parting q r e =
     let same : a.0 ≡ a.1 = sym (at_range (2 ^ relations q) a.0 a.1 l) ∙ a.3 in
     (a.1, parts_at q r a.1 (subst (λ x. x < 2 ^ relations q) same l) a.4)
 
-pub not_reached : (q : JoinQuery) (r : ℕ) → is_unreached q r ≡ true → Reached (graph_of q) 0 r → ⊥
-not_reached q r e w =
+not_reached : (q : JoinQuery) (r : ℕ) → IsQuery q → is_unreached q r ≡ true → Reached (graph_of q) 0 r → ⊥
+not_reached q r ok e w =
     let s : (s : ℕ) × Parts q r s = parting q r e in
-    let h : Has s.0 r = walk_stays q s.0 r s.1.closed s.1.first w in
+    let h : Has s.0 r = walk_stays q s.0 r ok s.1.closed s.1.first w in
     absurd (omega (arith, h, s.1.lacks))
 
 -- ---- a walk leads out of each other set
 
-leaving : (s : ℕ) (preds : List Pred) → list_all (λ p. member s p.low == member s p.high) preds ≡ false → (x : ℕ) × (y : ℕ) × SomeEnds preds x y × Has s x × (member s y ≡ 0)
-leaving s [] none = absurd cc
-leaving s (p ∷ ps) none =
+parting_pred : (s : ℕ) (preds : List Pred) → list_all (λ p. member s p.low == member s p.high) preds ≡ false → Any (λ p. member s p.low ≢ member s p.high) preds
+parting_pred s [] none = absurd cc
+parting_pred s (p ∷ ps) none =
     elim (cases_eq (member s p.low) (member s p.high)) [
       | inl same ↦
-          let e : (x : ℕ) × (y : ℕ) × SomeEnds ps x y × Has s x × (member s y ≡ 0) = leaving s ps (rw (eq-eqb _ _ same) at none) in
-          (e.0, e.1, inr e.2, e.3, e.4)
-      | inr other ↦
-          elim (cases_eq (member s p.low) 1) [
-            | inl low ↦ (p.low, p.high, inl (inl (refl, refl)), low, omega (arith, sets, other, low))
-            | inr not_low ↦ (p.high, p.low, inl (inr (refl, refl)), omega (arith, sets, other, not_low), omega (arith, sets, not_low))
-          ]
+          let a : Any (λ x. member s x.low ≢ member s x.high) ps = parting_pred s ps (rw (eq-eqb _ _ same) at none) in
+          (suc a.0, a.1, omega (arith, a.2), a.3, a.4)
+      | inr other ↦ (0, p, omega arith, refl, other)
     ]
 
 -- a step out of the set
@@ -94,14 +91,26 @@ record Leads (q : JoinQuery) (s : ℕ) : Type 0 where
   pub outside : member s to ≡ 0
   pub edge : Edge (graph_of q) from to
 
-leads_out : (q : JoinQuery) (s : ℕ) → IsQuery q → Within s (full (relations q)) → is_closed q s ≡ false → Leads q s
+leads_out : (q : JoinQuery) (s : ℕ) → IsQuery q → is_closed q s ≡ false → Leads q s
 unfolding is_closed
-leads_out q s ok w open_ =
-    let e : (x : ℕ) × (y : ℕ) × SomeEnds q.preds x y × Has s x × (member s y ≡ 0) = leaving s q.preds open_ in
-    record { from = e.0; to = e.1; inside = e.3; outside = e.4; edge = of_edge q e.0 e.1 (omega (arith, below e.0 e.3, ok.few)) e.2 }
-  where
-    below : (x : ℕ) → Has s x → x < relations q
-    below x h = grind (arith, sets, w x h)
+leads_out q s ok open_ =
+    let a : Any (λ p. member s p.low ≢ member s p.high) q.preds = parting_pred s q.preds open_ in
+    elim (cases_eq (member s a.1.low) 1) [
+      | inl low ↦ record {
+        from = a.1.low;
+        to = a.1.high;
+        inside = low;
+        outside = omega (arith, sets, a.4, low);
+        edge = (edge_iff q a.1.low a.1.high ok).1 (a.0, a.1, a.2, a.3, inl (refl, refl));
+      }
+      | inr not_low ↦ record {
+        from = a.1.high;
+        to = a.1.low;
+        inside = omega (arith, sets, a.4, not_low);
+        outside = omega (arith, sets, not_low);
+        edge = (edge_iff q a.1.high a.1.low ok).1 (a.0, a.1, a.2, a.3, inr (refl, refl));
+      }
+    ]
 
 parted : (q : JoinQuery) (r s : ℕ) → s < 2 ^ relations q → Has s 0 → member s r ≡ 0 → is_closed q s ≡ true → is_unreached q r ≡ true
 unfolding is_unreached parts_from
@@ -125,7 +134,7 @@ grow q r ok none (suc k) s l w first all =
     elim (cases_eq (member s r) 1) [
       | inl has ↦ all r has
       | inr lacks ↦
-          let e : Leads q s = leads_out q s ok w (all_open q r s none (full_below s (relations q) w) first (omega (arith, sets, lacks))) in
+          let e : Leads q s = leads_out q s ok (all_open q r s none (full_below s (relations q) w) first (omega (arith, sets, lacks))) in
           grow q r ok none k (union s (single e.to))
           (omega (arith, l, union_add s (single e.to) (λ t x y. other e t x y), some_single e.to))
           (λ t h. grow_within e t h) (grow_has e 0 first) (λ t h. all_more e t h)
@@ -163,7 +172,7 @@ grow q r ok none (suc k) s l w first all =
           | inr new ↦ subst (Reached (graph_of q) 0) (is_new e t h new) (step e.from e.to (all e.from e.inside) e.edge)
         ]
 
-pub reached : (q : JoinQuery) (r : ℕ) → IsQuery q → is_unreached q r ≡ false → Reached (graph_of q) 0 r
+reached : (q : JoinQuery) (r : ℕ) → IsQuery q → is_unreached q r ≡ false → Reached (graph_of q) 0 r
 reached q r ok none =
     grow q r ok none (full (relations q)) (single 0)
     (omega (arith, one_first))
@@ -205,8 +214,8 @@ none_in p n fails =
     ∙ slice_get_past (range_with_len 0 n) n (omega (arith, length-range_with_len 0 n))
 
 -- a connected graph has no unreached relation
-not_parted : (q : JoinQuery) (r : ℕ) → Connected (graph_of q) (full (relations q)) → r < relations q → is_unreached q r ≡ false
-not_parted q r c l =
+not_parted : (q : JoinQuery) (r : ℕ) → IsQuery q → Connected (graph_of q) (full (relations q)) → r < relations q → is_unreached q r ≡ false
+not_parted q r ok c l =
     elim (cases_Bool (is_unreached q r)) [
       | inl holds ↦ absurd (whole (parting q r holds))
       | inr fails ↦ fails
@@ -214,7 +223,7 @@ not_parted q r c l =
   where
     not_crossed : (s : ℕ) → is_closed q s ≡ true → Crossed (graph_of q) s (minus (full (relations q)) s) → ⊥
     not_crossed s closed x =
-        let same : member s x.0 ≡ member s x.1 = edge_stays q s x.0 x.1 closed x.2 in
+        let same : member s x.0 ≡ member s x.1 = edge_stays q s x.0 x.1 ok closed x.2 in
         elim x.3 [
           | inl y ↦ absurd (omega (arith, sets, same, y.0, y.1, member-minus (full (relations q)) s x.1))
           | inr y ↦ absurd (omega (arith, sets, same, y.0, y.1, member-minus (full (relations q)) s x.0))
@@ -244,13 +253,106 @@ not_parted q r c l =
         (λ t x y. apart s.0 t x y)
         (same_set _ _ (λ t. together s.0 t (λ h. within s.0 s.1.within t h))))
 
-pub first_none : (q : JoinQuery) → Connected (graph_of q) (full (relations q)) → first_unreached q ≡ None
+pub first_none : (q : JoinQuery) → IsQuery q → Connected (graph_of q) (full (relations q)) → first_unreached q ≡ None
 unfolding first_unreached
-first_none q c = none_in (is_unreached q) (relations q) (λ k l. not_parted q k c l)
+first_none q ok c = none_in (is_unreached q) (relations q) (λ k l. not_parted q k ok c l)
 
 pub first_some : (q : JoinQuery) (r : ℕ) → IsQuery q → IsFirstUnreached (graph_of q) r → first_unreached q ≡ Some r
 unfolding first_unreached
 first_some q r ok f =
     first_in (is_unreached q) (relations q) r f.known
     (elim (cases_Bool (is_unreached q r)) [ inl holds ↦ holds | inr fails ↦ absurd (f.unreached (reached q r ok fails)) ])
-    (λ k l. elim (cases_Bool (is_unreached q k)) [ inl holds ↦ absurd (not_reached q k holds (f.reached k l)) | inr fails ↦ fails ])
+    (λ k l. elim (cases_Bool (is_unreached q k)) [ inl holds ↦ absurd (not_reached q k ok holds (f.reached k l)) | inr fails ↦ fails ])
+
+-- ---- the converses
+
+in_range : (p : ℕ → Bool) (n r : ℕ) → find p (range_with_len 0 n) ≡ Some r → (r < n) × (p r ≡ true) × ((k : ℕ) → k < r → p k ≡ false)
+in_range p n r e =
+    let i : ℕ = position_or_len p (range_with_len 0 n) in
+    let found : slice_get (range_with_len 0 n) i ≡ Some r = sym (find_at p (range_with_len 0 n)) ∙ e in
+    let within : i < length (range_with_len 0 n) = slice_get_within (range_with_len 0 n) i r found in
+    let l : i < n = omega (arith, within, length-range_with_len 0 n) in
+    let same : i ≡ r = sym (at_range n i 0 l) ∙ get_or_from_slice_get (range_with_len 0 n) i r 0 found in
+    let place : position p (range_with_len 0 n) ≡ Some i = rw (lt-ltb i (length (range_with_len 0 n)) within) refl in
+    let first : (i < length (range_with_len 0 n)) × (p (get_or (range_with_len 0 n) i 0) ≡ true) × ((k : ℕ) → k < i → p (get_or (range_with_len 0 n) k 0) ≡ false) =
+    position-Some p (range_with_len 0 n) i 0 place in (
+      omega (arith, same, l),
+      subst (λ x. p x ≡ true) (at_range n i 0 l ∙ same) first.1,
+      λ k lt. subst (λ x. p x ≡ false) (at_range n k 0 (omega (arith, lt, same, l))) (first.2 k (omega (arith, lt, same))),
+    )
+
+not_in_range : (p : ℕ → Bool) (n k : ℕ) → find p (range_with_len 0 n) ≡ None → k < n → p k ≡ false
+not_in_range p n k e l =
+    elim (cases_lt (position_or_len p (range_with_len 0 n)) (length (range_with_len 0 n))) [
+      | inl within ↦ absurd (some_none (get_or (range_with_len 0 n) (position_or_len p (range_with_len 0 n)) 0)
+          (sym (slice_get-get_or (range_with_len 0 n) (position_or_len p (range_with_len 0 n)) 0 within) ∙ sym (find_at p (range_with_len 0 n)) ∙ e))
+      | inr past ↦ subst (λ x. p x ≡ false) (at_range n k 0 l) (fails_before_first p (range_with_len 0 n) k 0 (omega (arith, past, l, length-range_with_len 0 n)))
+    ]
+  where
+    some_none : (x : ℕ) → Some x ≡ None → ⊥
+    some_none x h = cc
+
+-- a walk from a into b crosses them
+walk_crosses : (q : JoinQuery) (a b r : ℕ) → IsQuery q → Disjoint a b → union a b ≡ full (relations q) → Has a 0 → Has b r → Reached (graph_of q) 0 r → Crossed (graph_of q) a b
+walk_crosses q a b r ok d u first last start = absurd (d 0 first last)
+walk_crosses q a b r ok d u first last (step k r' w e) =
+    elim (cases_eq (member a k) 1) [
+      | inl in_a ↦ (k, r', e, inl (in_a, last))
+      | inr out ↦ walk_crosses q a b k ok d u first (in_b k out ((graph_is q ok).known k r' e).0) w
+    ]
+  where
+    in_b : (k : ℕ) → member a k ≢ 1 → k < relations q → Has b k
+    in_b k out l = grind (arith, sets, member-same u k)
+
+all_connected : (q : JoinQuery) → IsQuery q → ((r : ℕ) → r < relations q → Reached (graph_of q) 0 r) → Connected (graph_of q) (full (relations q))
+all_connected q ok all =
+    record {
+      some = λ z. none_in_empty z (zero_known (relations q) ok.some);
+      within = λ r h. h;
+      split = λ a b na nb d u.
+          let x : (x : ℕ) × Has a x = some_member a na in
+          let y : (y : ℕ) × Has b y = some_member b nb in
+          elim (cases_eq (member a 0) 1) [
+            | inl in_a ↦ walk_crosses q a b y.0 ok d u in_a y.1 (all y.0 (known b y.0 (λ t h. in_right a b t u h) y.1))
+            | inr out ↦
+                crossed_back (graph_of q) b a
+                (walk_crosses q b a x.0 ok (λ t h k. d t k h) (turned a b ∙ u) (zero_right a b u out) x.1 (all x.0 (known a x.0 (λ t h. in_left a b t u h) x.1)))
+          ];
+    }
+  where
+    zero_known : (n : ℕ) → 0 < n → Has (full n) 0
+    zero_known n l = grind (arith, sets)
+
+    none_in_empty : full (relations q) ≡ 0 → Has (full (relations q)) 0 → ⊥
+    none_in_empty z h = grind (arith, sets, member-same z 0)
+
+    known : (s r : ℕ) → Within s (full (relations q)) → Has s r → r < relations q
+    known s r w h = grind (arith, sets, w r h)
+
+    in_right : (a b t : ℕ) → union a b ≡ full (relations q) → Has b t → Has (full (relations q)) t
+    in_right a b t u h = grind (arith, sets, member-same u t)
+
+    in_left : (a b t : ℕ) → union a b ≡ full (relations q) → Has a t → Has (full (relations q)) t
+    in_left a b t u h = grind (arith, sets, member-same u t)
+
+    zero_right : (a b : ℕ) → union a b ≡ full (relations q) → member a 0 ≢ 1 → Has b 0
+    zero_right a b u out = grind (arith, sets, member-same u 0, ok.some)
+
+    turned : (a b : ℕ) → union b a ≡ union a b
+    turned a b = same_set _ _ (λ r. grind (arith, sets))
+
+-- none is unreached exactly where the graph is connected, and else the first is the least that no walk reaches
+pub first_unreached_is : FirstUnreachedByWalks
+unfolding first_unreached
+first_unreached_is q ok = (
+  (
+    λ e. all_connected q ok (λ r l. reached q r ok (not_in_range (is_unreached q) (relations q) r e l)),
+    λ c. first_none q ok c,
+  ),
+  λ r. (
+    λ e.
+        let f : (r < relations q) × (is_unreached q r ≡ true) × ((k : ℕ) → k < r → is_unreached q k ≡ false) = in_range (is_unreached q) (relations q) r e in
+        record { known = f.0; unreached = λ w. not_reached q r ok f.1 w; reached = λ k l. reached q k ok (f.2 k l) },
+    λ f. first_some q r ok f,
+  ),
+)

@@ -1,6 +1,7 @@
 pub mod Answer
 pub mod Columns
 pub mod Entries
+pub mod Laws
 pub mod Limits
 pub mod Names
 pub mod Queries

@@ -8,6 +8,7 @@ mod fault;
 mod fields;
 mod file;
 mod items;
+pub mod laws;
 mod names;
 mod place;
 mod query;

@@ -10,7 +10,7 @@ alias_read : (rs : List RelationItem) (r : ℕ) (d : RelationItem) → r < lengt
 alias_read rs r d l = rw (slice_get-get_or rs r d l, alias_at) refl
 
 pub returns-in-None-clause-value : goal.returns-in-None-clause-value
-returns-in-None-clause-value c = ap (or_disconnected c.args.items.now) (first_none c.args.query.now (rw c.of.ensures at (c.in-None.ensures.none.0 refl)))
+returns-in-None-clause-value c = ap (or_disconnected c.args.items.now) (first_none c.args.query.now c.requires.valid (rw c.of.ensures at (c.in-None.ensures.none.0 refl)))
 
 pub returns-in_ok-alias-in-Some-clause-value : goal.returns-in_ok-alias-in-Some-clause-value
 returns-in_ok-alias-in-Some-clause-value c =
