@@ -1,4 +1,4 @@
-ghost use Rattle.std.specs.Prelude.{◌≡◌, ◌≤◌, ◌<◌, ℕ, MatchOption};
+ghost use Rattle.std.specs.Prelude.{◌≡◌, ◌≤◌, ◌<◌, MatchOption};
 ghost use Rattle.cost_model.specs.Words.{word, word_cost, word_op, word_left};
 
 use dpe_base::{COST_LIMIT, EMPTY, N_MAX, ROW_CAP, RelSet, SPAN};

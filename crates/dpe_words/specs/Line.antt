@@ -75,11 +75,17 @@ settings_of words = do
 abbrev pub IsLine : List Text → Type 0
 IsLine words = IsSome (settings_of words)
 
--- the answer is what was said, or a fault where nothing was; want of memory is free
-abbrev pub Tells : {X Y : Type 0} → (X → Y) → Result X WordFault → Option Y → Type 0
-Tells view (Ok x) said = said ≡ Some (view x)
-Tells view (Err Usage) said = said ≡ None
-Tells view (Err NoMemory) said = Unit {0}
+-- the answer is what the words say, or Usage where they say nothing; want of memory is free
+abbrev pub Tells : {X : Type 0} → Result X WordFault → Option X → Type 0
+Tells (Ok x) said = said ≡ Some x
+Tells (Err Usage) said = said ≡ None
+Tells (Err NoMemory) said = Unit {0}
+
+-- the same of an answer that is seen by view
+abbrev pub TellsBy : {X Y : Type 0} → (X → Y) → Result X WordFault → Option Y → Type 0
+TellsBy view (Ok x) said = said ≡ Some (view x)
+TellsBy view (Err Usage) said = said ≡ None
+TellsBy view (Err NoMemory) said = Unit {0}
 
 -- ---- how the program holds words and values
 

@@ -17,10 +17,17 @@ use Rattle.dpe_words.specs.declared.format.Format.TheVariants as format
 -- ---- the words of each option; a mode or an enumerator stands here once its layer is built
 
 abbrev pub modes : List (Text × Mode)
-modes = (codes "plan", Plan) ∷ []
+modes =
+    (codes "plan", Plan)
+    ∷ []
 
 abbrev pub enumerators : List (Text × Kind)
-enumerators = (codes "dpccp", DpCcp) ∷ (codes "dpsub", DpSub) ∷ (codes "dpsize", DpSize) ∷ (codes "dpsva", DpSva) ∷ []
+enumerators =
+    (codes "dpccp", DpCcp)
+    ∷ (codes "dpsub", DpSub)
+    ∷ (codes "dpsize", DpSize)
+    ∷ (codes "dpsva", DpSva)
+    ∷ []
 
 abbrev pub models : List (Text × ModelKind)
 models = (codes "ops", Ops) ∷ (codes "cout", Cout) ∷ []

@@ -8,6 +8,7 @@ use crate::format::Format;
 use cost_model::ModelKind;
 use dpe_base::Kind;
 
+/// The mode that the text names, `plan` where there is none. One whose layer isn't built has no name.
 pub fn mode_of(text: Option<&str>) -> Option<Mode>
     ensures { result ≡ value_or Mode.Plan (meaning_in modes) (option_map (λ t. t.now) text.entry) }
 {
@@ -17,6 +18,7 @@ pub fn mode_of(text: Option<&str>) -> Option<Mode>
     }
 }
 
+/// The enumerator that the text names, `dpccp` where there is none.
 pub fn enumerator_of(text: Option<&str>) -> Option<Kind>
     ensures { result ≡ value_or Kind.DpCcp (meaning_in enumerators) (option_map (λ t. t.now) text.entry) }
 {
@@ -29,6 +31,7 @@ pub fn enumerator_of(text: Option<&str>) -> Option<Kind>
     }
 }
 
+/// The cost model that the text names, `ops` where there is none.
 pub fn model_of(text: Option<&str>) -> Option<ModelKind>
     ensures { result ≡ value_or ModelKind.Ops (meaning_in models) (option_map (λ t. t.now) text.entry) }
 {
@@ -39,6 +42,7 @@ pub fn model_of(text: Option<&str>) -> Option<ModelKind>
     }
 }
 
+/// The format that the text names, `text` where there is none.
 pub fn format_of(text: Option<&str>) -> Option<Format>
     ensures { result ≡ value_or Format.Text (meaning_in formats) (option_map (λ t. t.now) text.entry) }
 {
@@ -49,6 +53,7 @@ pub fn format_of(text: Option<&str>) -> Option<Format>
     }
 }
 
+/// Whether the text asks for statistics, `off` where there is none.
 pub fn stats_of(text: Option<&str>) -> Option<bool>
     ensures { result ≡ value_or false (meaning_in switches) (option_map (λ t. t.now) text.entry) }
 {

@@ -4,8 +4,8 @@ use Rattle.std.specs.List.{AllPairs, Contains, flat_map, filter, range_with_len}
 use Rattle.std.proofs.lemmas.Bool.{cases_eq, cases_Bool, cases_lt, cond-true, cond-false, eq-eqb, ne_eqb, and_parts, and_from, not-true, not_from_false, false_from_ne_true, both_ways, lt-ltb, le-ltb}
 use Rattle.std.proofs.lemmas.List.Elements.{Contains-append_left, Contains-append_right, Contains-append_cases}
 use Rattle.dpe_base.specs.declared.pair.Pair.{Pair}
-use Rattle.dpe_base.specs.Sets.{Has, Within, Disjoint, Meets, IsLeast, member, union, full, size}
-use Rattle.dpe_base.proofs.SetLaws.{union_left, union_right, union_cases, union_comm, least_same}
+use Rattle.dpe_base.specs.Sets.{Has, Within, Disjoint, Meets, IsLeast, union, full, size}
+use Rattle.dpe_base.proofs.SetLaws.{union_left, union_right, union_cases, union_comm}
 use Rattle.dpe_base.proofs.SizeLaws.{size-union, size_none, size_full, union_some, some_member}
 use Rattle.join_graph.specs.Graphs.{JoinGraph, IsGraph, Crossed, Connected, Pairs, pair_of}
 use Rattle.join_graph.proofs.GraphLaws.{crossed_back}

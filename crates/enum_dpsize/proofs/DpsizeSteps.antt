@@ -1,15 +1,12 @@
 -- One step of the stream by sizes.
 use Rattle.std.proofs.Common.{◌≡◌, ℕ, suc, ◌+◌, ◌-◌, ◌*◌, ◌/◌, ◌<◌, ◌≤◌, inl, inr, arith, sym, ◌∙◌, ap, subst, true, List, [], ◌∷◌, ◌++◌, length, get_or, drop, nat_eq, append_assoc}
-use Rattle.std.specs.Prelude.{All, Contains, Some}
+use Rattle.std.specs.Prelude.{Some}
 use Rattle.std.specs.List.{flat_map, range_with_len}
 use Rattle.std.proofs.lemmas.Bool.{eqb-true}
 use Rattle.std.proofs.lemmas.List.{drop_all}
-use Rattle.std.proofs.lemmas.List.Elements.{Contains-get_or}
-use Rattle.std.proofs.lemmas.List.FromFn.{get_or-map-range_with_len, length-map-range_with_len}
 use Rattle.dpe_base.specs.declared.pair.Pair.{Pair}
-use Rattle.join_graph.specs.Graphs.{JoinGraph, IsGraph, Connected}
-use Rattle.pair_stream.specs.Parts.{part, parts_of}
-use Rattle.pair_stream.proofs.PartLaws.{part_has}
+use Rattle.join_graph.specs.Graphs.{JoinGraph}
+use Rattle.pair_stream.specs.Parts.{part}
 use Rattle.pair_stream.specs.Streams.{is_over}
 use Rattle.enum_dpsize.specs.Dpsize.{IsDpsizeState, NextSizes, pairs_sized, rows_from, start_at, dpsize_left, seq_dpsize}
 use Rattle.enum_dpsize.proofs.RowLaws.{row_begins}

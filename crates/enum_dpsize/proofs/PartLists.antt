@@ -1,7 +1,7 @@
 -- The parts of a graph as lists: how long they are, and that skip vectors can be made of them.
-use Rattle.std.proofs.Common.{◌≡◌, ◌≢◌, ◌↔◌, ℕ, suc, ◌+◌, ◌*◌, ◌-◌, ◌^◌, ◌<◌, ◌≤◌, ◌⊎◌, inl, inr, arith, refl, sym, ◌∙◌, ap, subst, Bool, true, false, List, [], ◌∷◌, ◌++◌, length, map, get_or, slice_index, cond, take, nat_cmp, nat_eq}
+use Rattle.std.proofs.Common.{◌≡◌, ℕ, suc, ◌+◌, ◌-◌, ◌^◌, ◌<◌, ◌≤◌, arith, refl, sym, ◌∙◌, ap, subst, Bool, true, false, List, [], ◌∷◌, ◌++◌, length, map, get_or, slice_index, cond, take, nat_cmp, nat_eq}
 use Rattle.std.specs.Prelude.{All}
-use Rattle.std.specs.List.{AllPairs, Contains, filter, range_with_len, count_by}
+use Rattle.std.specs.List.{AllPairs, Contains, filter, range_with_len}
 use Rattle.std.specs.Cmp.Lexicographic.{slice_cmp}
 use Rattle.std.specs.Cmp.{nat_cmp_is}
 use Rattle.std.specs.Ordering.{ordering_then, is_le}
@@ -13,9 +13,9 @@ use Rattle.std.proofs.lemmas.List.Sums.{length-filter, count_by-le-length}
 use Rattle.std.proofs.lemmas.Nat.{pow_pos}
 use Rattle.std.proofs.Math.Pow.{pow_mono}
 use Rattle.dpe_base.specs.declared.TheConstants.{N_MAX}
-use Rattle.dpe_base.specs.Sets.{Has, Within, union, single, full, size, member, members, members_below, alone, list_order}
+use Rattle.dpe_base.specs.Sets.{Has, union, single, full, size, member, members, members_below, alone, list_order}
 use Rattle.dpe_base.proofs.SetLaws.{sets, same_set, full_limit, single_has, empty_has}
-use Rattle.dpe_base.proofs.SizeLaws.{size_one, size-single, within_span}
+use Rattle.dpe_base.proofs.SizeLaws.{size_one, size-single}
 use Rattle.dpe_base.proofs.ListOrder.{members_more}
 use Rattle.join_graph.specs.Graphs.{JoinGraph, IsGraph, Connected}
 use Rattle.join_graph.proofs.GraphLaws.{connected_single}

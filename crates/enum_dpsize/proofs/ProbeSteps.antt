@@ -1,5 +1,5 @@
 -- The probes that are left, row by row and size by size.
-use Rattle.std.proofs.Common.{◌≡◌, ℕ, suc, ◌+◌, ◌-◌, ◌*◌, ◌/◌, ◌^◌, ◌<◌, ◌≤◌, inl, inr, arith, refl, sym, ◌∙◌, ap, subst, Bool, true, false, List, [], ◌∷◌, length, get_or, slice_index, nat_eq, nat_lt}
+use Rattle.std.proofs.Common.{◌≡◌, ℕ, suc, ◌+◌, ◌-◌, ◌*◌, ◌/◌, ◌^◌, ◌<◌, ◌≤◌, inl, inr, arith, sym, ◌∙◌, ap, subst, Bool, List, length, get_or, slice_index, nat_eq, nat_lt}
 use Rattle.std.specs.Prelude.{Some}
 use Rattle.std.specs.List.{range_with_len, sum_by}
 use Rattle.std.proofs.lemmas.Bool.{cases_lt, cond-true, cond-false, lt-ltb, le-ltb}
@@ -175,8 +175,11 @@ probes_next g parts s k i j n s' k' j' f en o next ej =
 pub probes_here : (g : JoinGraph) (s k : ℕ) (xs ys : List ℕ) (i j i' j' a b : ℕ) → xs ≡ part g k → ys ≡ part g (s - k) → b + rows_probes_from ys (nat_eq k (s - k)) xs i' j' ≡ a + rows_probes_from ys (nat_eq k (s - k)) xs i j → b + probes_left g s k i' j' ≡ a + probes_left g s k i j
 unfolding probes_left
 probes_here g s k xs ys i j i' j' a b ex ey e =
-    omega (arith, subst (λ (zs : List ℕ). b + rows_probes_from (part g (s - k)) (nat_eq k (s - k)) zs i' j' ≡ a + rows_probes_from (part g (s - k)) (nat_eq k (s - k)) zs i j) ex
-    (subst (λ (zs : List ℕ). b + rows_probes_from zs (nat_eq k (s - k)) xs i' j' ≡ a + rows_probes_from zs (nat_eq k (s - k)) xs i j) ey e))
+    omega (
+      arith,
+      subst (λ (zs : List ℕ). b + rows_probes_from (part g (s - k)) (nat_eq k (s - k)) zs i' j' ≡ a + rows_probes_from (part g (s - k)) (nat_eq k (s - k)) zs i j) ex
+          (subst (λ (zs : List ℕ). b + rows_probes_from zs (nat_eq k (s - k)) xs i' j' ≡ a + rows_probes_from zs (nat_eq k (s - k)) xs i j) ey e),
+    )
 
 pub rows_within : (g : JoinGraph) (s k : ℕ) (xs ys : List ℕ) (i j : ℕ) → xs ≡ part g k → ys ≡ part g (s - k) → rows_probes_from ys (nat_eq k (s - k)) xs i j ≤ probes_left g s k i j
 unfolding probes_left
@@ -213,7 +216,7 @@ probes_bound g ok =
     omega (
       arith,
       sum_by-le (of_size g) (N_MAX * (2 ^ N_MAX * 2 ^ N_MAX)) (range_with_len 2 (g.n - 1))
-      (all_by (λ s. of_size g s ≤ N_MAX * (2 ^ N_MAX * 2 ^ N_MAX)) (range_with_len 2 (g.n - 1)) (λ s c. size_few g s ok (omega (arith, (contains_from_range 2 (g.n - 1) s c).1, ok.few)))),
+          (all_by (λ s. of_size g s ≤ N_MAX * (2 ^ N_MAX * 2 ^ N_MAX)) (range_with_len 2 (g.n - 1)) (λ s c. size_few g s ok (omega (arith, (contains_from_range 2 (g.n - 1) s c).1, ok.few)))),
       length-range_with_len 2 (g.n - 1),
       ok.few,
     )

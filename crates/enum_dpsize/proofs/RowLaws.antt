@@ -5,8 +5,8 @@ use Rattle.std.proofs.lemmas.Bool.{cases_lt, cond-true, cond-false, and_left, no
 use Rattle.std.specs.Cmp.{both_ways as test_same}
 use Rattle.std.proofs.lemmas.List.{drop_all}
 use Rattle.dpe_base.specs.declared.pair.Pair.{Pair}
-use Rattle.dpe_base.specs.Sets.{IsLeast, Meets}
-use Rattle.join_graph.specs.Graphs.{JoinGraph, IsGraph, Crossed, Connected}
+use Rattle.dpe_base.specs.Sets.{Has, IsLeast, Meets}
+use Rattle.join_graph.specs.Graphs.{JoinGraph, IsGraph, Edge, Crossed, Connected, IsNeighbours}
 use Rattle.pair_stream.specs.Connectivity.{adjacent_to_members}
 use Rattle.pair_stream.specs.Subsets.{meets, least}
 use Rattle.pair_stream.proofs.SubsetLaws.{meets_true, least_is}
@@ -17,12 +17,25 @@ pub not_joinable : (g : JoinGraph) (x y : ℕ) → Meets x y → false ≡ is_jo
 unfolding is_joinable
 not_joinable g x y m = sym (and_left (not (meets x y)) (meets (adjacent_to_members g x g.n) y) (not_from_true (meets x y) ((meets_true x y).1 m)))
 
-pub joinable_by : (g : JoinGraph) (x y : ℕ) (b : Bool) → IsGraph g → (Meets x y → ⊥) → (b ≡ true) ↔ Crossed g x y → b ≡ is_joinable g x y
+-- a set is joined to x where it has a neighbour of x
+around_crossed : (g : JoinGraph) (x around y : ℕ) → IsGraph g → IsNeighbours g x around → (Meets x y → ⊥) → Meets around y ↔ Crossed g x y
+around_crossed g x around y ok n apart = (
+  λ m.
+      let e : (k : ℕ) × Has x k × Edge g k m.0 = ((n m.0).0 m.1).1 in
+      (e.0, m.0, e.2, inl (e.1, m.2)),
+  λ c. elim c.3 [
+    | inl h ↦ (c.1, (n c.1).1 (λ k. apart (c.1, k, h.1), (c.0, h.0, c.2)), h.1)
+    | inr h ↦ (c.0, (n c.0).1 (λ k. apart (c.0, k, h.1), (c.1, h.0, ok.turned c.0 c.1 c.2)), h.1)
+  ],
+)
+
+pub joinable_by : (g : JoinGraph) (x around y : ℕ) (b : Bool) → IsGraph g → IsNeighbours g x around → (Meets x y → ⊥) → (b ≡ true) ↔ Meets around y → b ≡ is_joinable g x y
 unfolding is_joinable
-joinable_by g x y b ok apart both =
+joinable_by g x around y b ok n apart both =
+    let crossed : Meets around y ↔ Crossed g x y = around_crossed g x around y ok n apart in
     test_same b (not (meets x y) && meets (adjacent_to_members g x g.n) y)
-    (λ t. and_from (not (meets x y)) (meets (adjacent_to_members g x g.n) y) (not_from_false _ (false_from_ne_true (meets x y) (λ m. apart ((meets_true x y).0 m)))) ((joined_true g x y ok).1 (both.0 t)))
-    (λ t. both.1 ((joined_true g x y ok).0 (and_parts (not (meets x y)) (meets (adjacent_to_members g x g.n) y) t).1))
+    (λ t. and_from (not (meets x y)) (meets (adjacent_to_members g x g.n) y) (not_from_false _ (false_from_ne_true (meets x y) (λ m. apart ((meets_true x y).0 m)))) ((joined_true g x y ok).1 (crossed.0 (both.0 t))))
+    (λ t. both.1 (crossed.1 ((joined_true g x y ok).0 (and_parts (not (meets x y)) (meets (adjacent_to_members g x g.n) y) t).1)))
 
 pub least_by : (g : JoinGraph) (x r : ℕ) → IsGraph g → Connected g x → IsLeast x r → r ≡ least x
 least_by g x r ok c l =

@@ -1,9 +1,8 @@
 -- A row by skips: what the scan leaps over cannot be joined, and its probes are those that are left.
-use Rattle.std.proofs.Common.{◌≡◌, ◌≢◌, ℕ, zero, suc, ◌+◌, ◌-◌, ◌^◌, ◌<◌, ◌≤◌, inl, inr, arith, sym, ◌∙◌, ap, Bool, true, false, not, List, [], ◌∷◌, length, get_or, slice_index, drop, nat_eq}
+use Rattle.std.proofs.Common.{◌≡◌, ◌≢◌, ℕ, zero, suc, ◌+◌, ◌-◌, ◌^◌, ◌<◌, ◌≤◌, arith, sym, ◌∙◌, ap, true, false, not, List, ◌∷◌, length, get_or, slice_index, drop, nat_eq}
 use Rattle.std.specs.Prelude.{All}
 use Rattle.std.proofs.lemmas.Bool.{and_left, ne_eqb, not_from_false, not_from_true}
 use Rattle.std.proofs.lemmas.List.{get_or_default}
-use Rattle.dpe_base.specs.declared.TheConstants.{N_MAX}
 use Rattle.dpe_base.specs.declared.pair.Pair.{Pair}
 use Rattle.dpe_base.specs.Sets.{inter}
 use Rattle.dpe_base.proofs.SetLaws.{sets, same_set, member-same}
@@ -14,7 +13,7 @@ use Rattle.pair_stream.specs.Subsets.{meets}
 use Rattle.skip_vector.specs.Skips.{IsPart, IsFirstFree, NoneFree, probes, probes_from}
 use Rattle.skip_vector.proofs.JoinLaws.{probes_rest}
 use Rattle.enum_dpsize.specs.Dpsize.{is_joinable, pair_by_least, pairs_with}
-use Rattle.enum_dpsize.proofs.RowLaws.{row_taken, row_passed, row_over}
+use Rattle.enum_dpsize.proofs.RowLaws.{row_taken, row_passed}
 
 -- a blocked entry cannot be joined
 blocked_out : (g : JoinGraph) (x y : ℕ) → inter y x ≢ 0 → false ≡ is_joinable g x y

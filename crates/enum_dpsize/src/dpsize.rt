@@ -48,10 +48,12 @@ fn next_in_row(graph: &Graph, x: RelSet, ys: &[RelSet], next: &mut usize) -> Opt
     requires ys { All (Connected graph.now) ys.now }
     ensures { Takes (pairs_with graph.now (drop next.old ys.now) x) (pairs_with graph.now (drop next.new ys.now) x) result }
 {
+    let _n = graph.n();
+    let around = graph.neighbours(x);
     'row: while *next < ys.len() {
         let y = ys[*next];
         *next += 1;
-        if is_joinable(graph, x, y) {
+        if is_joinable(graph, x, around, y) {
             return Some(pair_by_least(graph, x, y));
         }
     }

@@ -63,6 +63,7 @@ fn next_in_row<L: Ledger>(
     ensures steps { steps.new + probes.old ≡ steps.old + probes.new }
 {
     let _n = graph.n();
+    let around = graph.neighbours(x);
     'row: while *next < ys.len() {
         let free = ys.next_free(*next, x, steps);
         match free.found {
@@ -74,7 +75,7 @@ fn next_in_row<L: Ledger>(
             Some((place, y)) => {
                 *probes += free.probes;
                 *next = place + 1;
-                if is_joinable(graph, x, y) {
+                if is_joinable(graph, x, around, y) {
                     return Some(pair_by_least(graph, x, y));
                 }
             }

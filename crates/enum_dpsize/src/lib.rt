@@ -6,6 +6,8 @@ mod dpsva;
 mod pairs;
 mod sizes;
 mod skip_parts;
+#[cfg(test)]
+mod tests;
 
 pub use dpsize::DpSize;
 pub use dpsva::DpSva;

@@ -1,22 +1,21 @@
 ghost use Rattle.std.specs.Prelude.{◌≡◌};
-ghost use Rattle.join_graph.specs.Graphs.{Connected};
+ghost use Rattle.join_graph.specs.Graphs.{Connected, IsNeighbours};
 ghost use Rattle.pair_stream.specs.Subsets.{least};
 ghost use Rattle.enum_dpsize.specs.Dpsize.{is_joinable, pair_by_least};
 
 use dpe_base::{Pair, RelSet};
 use join_graph::Graph;
 
-// Whether `x` and `y` are disjoint and joined.
-pub fn is_joinable(graph: &Graph, x: RelSet, y: RelSet) -> bool
-    requires x { Connected graph.now x }
-    requires y { Connected graph.now y }
+// Whether `y` is disjoint from `x` and joined to it, where `around` are the neighbours of `x`.
+pub fn is_joinable(graph: &Graph, x: RelSet, around: RelSet, y: RelSet) -> bool
+    requires { IsNeighbours graph.now x around }
     ensures { result ≡ is_joinable graph.now x y }
 {
     let _n = graph.n();
     if x.meets(y) {
         return false;
     }
-    graph.joined(x, y)
+    around.meets(y)
 }
 
 // The least relation of a connected set.

@@ -46,16 +46,16 @@ impl SkipParts {
         Ok(SkipParts { lists, skips })
     }
 
-    /// The connected sets of that many relations as a plain list.
-    pub fn list(&self, size: u32) -> &[RelSet]
+    // The connected sets of that many relations as a plain list.
+    pub(crate) fn list(&self, size: u32) -> &[RelSet]
         requires { (1 ≤ size) × (size ≤ length self.now) }
         ensures { result.now ≡ slice_index_or self.now (size - 1) result.now }
     {
         self.lists[size as usize - 1].as_slice()
     }
 
-    /// The connected sets of that many relations with their skip vectors.
-    pub fn skips(&self, size: u32) -> &SkipPart
+    // The connected sets of that many relations with their skip vectors.
+    pub(crate) fn skips(&self, size: u32) -> &SkipPart
         requires { (1 ≤ size) × (size ≤ length self.now) }
         ensures { result.now ≡ slice_index_or self.now (size - 1) result.now }
     {

@@ -1,5 +1,5 @@
 ghost use Rattle.std.specs.Prelude.{◌≡◌, ℕ, ◌<◌, ◌≤◌, ◌↔◌, IsTrue, MatchOption, IsNone, IfSome, All};
-ghost use Rattle.dpe_base.specs.Sets.{Has, Within, full};
+ghost use Rattle.dpe_base.specs.Sets.{Has, Within, full, union};
 ghost use Rattle.join_graph.specs.Graphs.{JoinGraph, graph_of, Crossed, Connected, Edge, other_end, adjacent_to, adjacency, IsNeighbours, IsFrontier, IsGrown, IsFirstUnreached, IsGraph};
 
 use dpe_base::{N_MAX, Pred, Query, RelSet};
@@ -89,10 +89,10 @@ impl Graph {
         ensures { (t : ℕ) → Has result t ↔ ((k : ℕ) × Has s k × Edge self.now k t) }
     {
         let mut all = RelSet::empty();
-        for r in 0..self.n {
-            if s.has(r) {
-                all = all.union(self.adjacent[r as usize]);
-            }
+        let mut rest = s;
+        'rest: while let Some(r) = rest.least() {
+            all = all.union(self.adjacent[r as usize]);
+            rest = rest.minus(RelSet::single(r));
         }
         all
     }
@@ -124,6 +124,19 @@ impl Graph {
         outside.minus(outside.minus(s))
     }
 
+    // The same of `part` and its frontier `more`. What is joined to `part` is in `more`, so that alone counts.
+    fn next_frontier(&self, part: RelSet, more: RelSet, s: RelSet) -> RelSet
+        requires within { Within more (full self.now.n) }
+        requires frontier { IsFrontier self.now part s more }
+        ensures { IsFrontier self.now (union part more) s result }
+    {
+        let outside = s.minus(part.union(more));
+        if outside.bits() == 0 {
+            return outside;
+        }
+        outside.minus(outside.minus(self.gathered(more)))
+    }
+
     // What a walk inside `s` reaches from `first`.
     fn grown(&self, first: u8, s: RelSet) -> RelSet
         requires within { Within s (full self.now.n) }
@@ -134,8 +147,9 @@ impl Graph {
         let mut part = RelSet::single(first);
         let mut more = self.frontier(part, s);
         'walk: while more.bits() != 0 {
+            let next = self.next_frontier(part, more, s);
             part = part.union(more);
-            more = self.frontier(part, s);
+            more = next;
         }
         part
     }

@@ -16,7 +16,8 @@ use Rattle.cost_model.proofs.WordLaws.{best_below_is}
 use Rattle.join_tree.specs.Trees.{JoinTree, leaf, join, set_of, Trees, Made, LeastOverPairs, Builds, pair_word}
 use Rattle.join_tree.specs.BuiltLists.{IsBuilt, HasBestPair, IsWorkable, BuiltListsAreWorkable}
 use Rattle.join_tree.proofs.TreeLaws.{union_comm, connected_size_some, connected_single_known}
-use Rattle.join_tree.proofs.Substructure.{sides_smaller, pair_size_few, join_made, each_has_least, least_over_pairs_exists, least_from_pairs, least_single}
+use Rattle.join_tree.proofs.BestLaws.{least_single}
+use Rattle.join_tree.proofs.Substructure.{sides_smaller, pair_size_few, join_made, each_has_least, least_over_pairs_exists, least_from_pairs}
 
 module _ (kind : ℕ) (q : JoinQuery) (pairs : List Pair) (ok : IsQuery q) (builds : Builds (graph_of q) pairs) where
   built_side : (s : ℕ) → Connected (graph_of q) s → SideBuilt pairs s → IsBuilt q pairs s
@@ -83,7 +84,7 @@ module _ (kind : ℕ) (q : JoinQuery) (pairs : List Pair) (ok : IsQuery q) (buil
         sound = pair_word_made;
         sides = λ p c. (built_side p.a (builds.within p c).first (builds.sides p c).0, built_side p.b (builds.within p c).second (builds.sides p c).1);
         built = λ s w m. subst (IsBuilt q pairs) m.over (built_tree m.tree m.made);
-        leaves = λ r known. least_single kind q pairs ok builds r known;
+        leaves = λ r known. least_single kind q pairs builds.within r known;
         best_pair = best_pair;
       }
 

@@ -4,7 +4,7 @@ use Rattle.dpe_base.specs.declared.TheConstants.{COST_LIMIT, SPAN}
 use Rattle.dpe_base.specs.Queries.{JoinQuery, IsQuery}
 use Rattle.dpe_base.specs.Sets.{Has, Within, Disjoint, IsLeast, union, minus, single, size}
 use Rattle.dpe_base.proofs.SetLaws.{sets, same_set, member-same}
-use Rattle.dpe_base.proofs.SizeLaws.{union_add, size-union, size-single, size_one}
+use Rattle.dpe_base.proofs.SizeLaws.{union_add, size-single, size_one}
 use Rattle.join_graph.specs.Graphs.{Connected, Crossed, graph_of}
 use Rattle.card_scaled.specs.Cards.{rows}
 use Rattle.cost_model.specs.Costs.{operators, join_cost}
@@ -12,7 +12,7 @@ use Rattle.cost_model.specs.Words.{word, word_op, word_left}
 use Rattle.cost_model.proofs.CostLaws.{operators_few}
 use Rattle.cost_model.proofs.WordLaws.{word_mono}
 use Rattle.join_tree.specs.Trees.{JoinTree, leaf, join, set_of, cost, root_word, Legal, HasWord, Best, Plan, EverySubtree}
-use Rattle.join_tree.proofs.TreeLaws.{connected_size_some, connected_single_known, legal_connected}
+use Rattle.join_tree.proofs.TreeLaws.{connected_single_known, legal_connected, join_size}
 use Rattle.join_tree.proofs.BestLaws.{HasBest, legal_small, join_word, best_below, best_cost}
 
 every_root : (P : JoinTree → Type 0) (t : JoinTree) → EverySubtree P t → P t
@@ -76,18 +76,8 @@ plan_exists kind q s ok words c = plan_below kind q (suc s) s ok (omega arith) w
 
 -- ---- what the best word of a set says of the root of its plan
 
--- a join has two relations or more
-join_size : (kind : ℕ) (q : JoinQuery) (op : ℕ) (l r : JoinTree) → Legal kind (graph_of q) (join op l r) → 2 ≤ size (union (set_of l) (set_of r))
-join_size kind q op l r m =
-    omega (
-      arith,
-      size-union (set_of l) (set_of r) m.3,
-      connected_size_some (graph_of q) (set_of l) (legal_connected kind (graph_of q) l m.1),
-      connected_size_some (graph_of q) (set_of r) (legal_connected kind (graph_of q) r m.2),
-    )
-
-least_single_set : (s r : ℕ) → size s ≡ 1 → IsLeast s r → s ≡ single r
-least_single_set s r one least =
+single_of_least : (s r : ℕ) → size s ≡ 1 → IsLeast s r → s ≡ single r
+single_of_least s r one least =
     let k : (k : ℕ) × (s ≡ single k) = size_one s one in
     let e : k.0 ≡ r = grind (arith, sets, member-same k.1 r, least.0) in
     k.1 ∙ ap single e
@@ -98,14 +88,14 @@ plan_single kind q s r w best one least = of_tree best.some.0 best.some.1 best.s
   where
     of_tree : (t : JoinTree) → Legal kind (graph_of q) t → set_of t ≡ s → HasWord kind q t w → Plan kind q s (leaf r)
     of_tree (leaf k) m over has =
-        let e : s ≡ single r = least_single_set s r one least in
+        let e : s ≡ single r = single_of_least s r one least in
         let is : w ≡ 3 * SPAN + single r = omega (arith, has.is, over, e) in
         record {
           legal = connected_single_known (graph_of q) s r (subst (Connected (graph_of q)) over (legal_connected kind (graph_of q) (leaf k) m)) e;
           over = sym e;
           best = subst (Best kind q (single r)) is (subst (λ x. Best kind q x w) e best);
         }
-    of_tree (join op x y) m over has = absurd (omega (arith, join_size kind q op x y m, ap size over, one))
+    of_tree (join op x y) m over has = absurd (omega (arith, join_size kind (graph_of q) op x y m, ap size over, one))
 
 -- the operator and the left set of the word, the other set, and the tree that they make of the plans of the two sets
 pub record IsPlanRoot (kind : ℕ) (q : JoinQuery) (s op left right : ℕ) : Type 0 where

@@ -18,6 +18,7 @@ use Rattle.join_tree.specs.Laws.{OptimalSubstructure, SidesHaveLeastWords}
 use Rattle.join_tree.specs.Trees.{JoinTree, leaf, join, set_of, cost, root_word, HasWord, Trees, Made, Least, LeastOfPair, LeastOverPairs, Builds}
 use Rattle.join_tree.proofs.TreeCosts.{rows_bounds}
 use Rattle.join_tree.proofs.TreeLaws.{union_comm, connected_small, connected_size_some, connected_single_known, legal_connected, made_legal}
+use Rattle.join_tree.proofs.BestLaws.{least_single}
 use Rattle.join_tree.proofs.LeastOf.{least_of}
 
 -- ---- pairs of the list
@@ -268,33 +269,13 @@ module _ (kind : ℕ) (q : JoinQuery) (pairs : List Pair) (ok : IsQuery q) (buil
         | inr x ↦ (x.0, record { some = (x.1, x.2, x.3.0, x.3.1); least = λ y v d f h. x.4 y v d (f, h) })
       ]
 
-  -- a relation alone has one word
-  pub least_single : (r : ℕ) → r < relations q → Least kind q pairs (single r) (3 * SPAN + single r)
-  least_single r l =
-      record {
-        made = record { tree = leaf r; made = l; over = refl; word = record { below = omega arith; is = refl } };
-        least = λ v m. single_least m.tree v m.made m.over m.word;
-      }
-    where
-      single_least : (t : JoinTree) (v : ℕ) → Trees kind q pairs t → set_of t ≡ single r → HasWord kind q t v → 3 * SPAN + single r ≤ v
-      single_least (leaf k) v m e h = omega (arith, e, h.is)
-      single_least (join op a b) v m e h =
-          absurd (omega (
-            arith,
-            size-union (set_of a) (set_of b) (made_legal kind q pairs builds.within (join op a b) m).3,
-            connected_size_some (graph_of q) (set_of a) (made_connected a m.1),
-            connected_size_some (graph_of q) (set_of b) (made_connected b m.2),
-            ap size e,
-            size-single r,
-          ))
-
   pub least_exists : (n s : ℕ) → s < n → IsSide s → (w : ℕ) × Least kind q pairs s w
   least_exists zero s l side = absurd (omega arith)
   least_exists (suc n) s l side =
       elim (cases_lt (size s) 2) [
         | inl one ↦
             let e : (r : ℕ) × (s ≡ single r) = size_one s (omega (arith, connected_size_some (graph_of q) s side.0)) in
-            subst (λ x. (w : ℕ) × Least kind q pairs x w) (sym e.1) (3 * SPAN + single e.0, least_single e.0 (connected_single_known (graph_of q) s e.0 side.0 e.1))
+            subst (λ x. (w : ℕ) × Least kind q pairs x w) (sym e.1) (3 * SPAN + single e.0, least_single kind q pairs builds.within e.0 (connected_single_known (graph_of q) s e.0 side.0 e.1))
         | inr many ↦
             let p : (p : Pair) × Contains pairs p × (union p.a p.b ≡ s) = side.1 many in
             let each : EachHasLeast s = λ x c e. split_of x c (least_exists n x.a (omega (arith, (sides_smaller q pairs ok builds x c).0, e)) (pair_sides x c).0) (least_exists n x.b (omega (arith, (sides_smaller q pairs ok builds x c).1, e)) (pair_sides x c).1) in

@@ -6,7 +6,7 @@ use Rattle.dpe_base.specs.declared.pair.Pair.{Pair}
 use Rattle.dpe_base.specs.Queries.{JoinQuery, relations, IsQuery}
 use Rattle.dpe_base.specs.Sets.{Within, union, single, full, size}
 use Rattle.dpe_base.proofs.SetLaws.{sets, same_set, member-same}
-use Rattle.dpe_base.proofs.SizeLaws.{size_none, within_span}
+use Rattle.dpe_base.proofs.SizeLaws.{size_none, size-union, within_span}
 use Rattle.join_graph.specs.Graphs.{JoinGraph, Connected, Pairs, pair_of, graph_of}
 use Rattle.join_graph.proofs.GraphLaws.{crossed_back, connected_union, connected_single, pair_either, grown_pair}
 use Rattle.join_graph.specs.PairLists.{SideBuilt}
@@ -52,6 +52,16 @@ pub legal_connected : (kind : ℕ) (g : JoinGraph) (t : JoinTree) → Legal kind
 legal_connected kind g (leaf r) l = connected_single g r l
 legal_connected kind g (join op left right) l =
     connected_union g (set_of left) (set_of right) (legal_connected kind g left l.1) (legal_connected kind g right l.2) l.4
+
+-- a join has two relations or more
+pub join_size : (kind : ℕ) (g : JoinGraph) (op : ℕ) (l r : JoinTree) → Legal kind g (join op l r) → 2 ≤ size (union (set_of l) (set_of r))
+join_size kind g op l r m =
+    omega (
+      arith,
+      size-union (set_of l) (set_of r) m.3,
+      connected_size_some g (set_of l) (legal_connected kind g l m.1),
+      connected_size_some g (set_of r) (legal_connected kind g r m.2),
+    )
 
 pub legal_made : (kind : ℕ) (q : JoinQuery) (pairs : List Pair) → IsQuery q → AllPairs q pairs → (t : JoinTree) → Legal kind (graph_of q) t → Trees kind q pairs t
 legal_made kind q pairs ok all (leaf r) l = l

@@ -1,5 +1,5 @@
-ghost use Rattle.std.specs.Prelude.{◌≡◌, ℕ, ◌<◌, ◌≤◌, ◌^◌, ◌↔◌, IsTrue, MatchOption};
-ghost use Rattle.dpe_base.specs.Sets.{Has, union};
+ghost use Rattle.std.specs.Prelude.{◌≡◌, ◌<◌, ◌≤◌, ◌^◌, ◌↔◌, IsTrue, MatchOption};
+ghost use Rattle.dpe_base.specs.Sets.{union};
 ghost use Rattle.join_graph.specs.Graphs.{Connected, graph_of};
 ghost use Rattle.card_scaled.specs.Cards.{rows};
 ghost use Rattle.cost_model.specs.Costs.{operators, join_cost};
@@ -14,7 +14,9 @@ use join_graph::Graph;
 /// A join tree.
 #[derive(Debug, Drop)]
 pub enum Tree {
+    /// A relation.
     Leaf(u8),
+    /// A join by an operator of the cost model.
     Join {
         op: u8,
         left: Box<Tree>,
@@ -23,6 +25,7 @@ pub enum Tree {
 }
 
 // What the operator costs on two connected sets.
+#[tactic(auto, using(crate::proofs::TreeCosts::rows_bounds))]
 fn operator_cost<M: CostModel>(
     model: &M,
     query: &Query,
@@ -77,6 +80,7 @@ impl Tree {
         requires { Legal M.KIND (graph_of query.now) (tree_of self.now) }
         ensures { result ≡ cost M.KIND query.now (tree_of self.now) }
     {
+        // its clause says what every query keeps
         let _n = query.n();
         match self {
             Tree::Leaf(_) => 0,
@@ -92,11 +96,13 @@ impl Tree {
     /// the cost is `COST_LIMIT` or more.
     pub fn root_word<M: CostModel>(&self, model: &M, query: &Query) -> Option<Word>
         requires { Legal M.KIND (graph_of query.now) (tree_of self.now) }
-        ensures { MatchOption
-            result
-            (COST_LIMIT ≤ cost M.KIND query.now (tree_of self.now))
-            (λ w. (cost M.KIND query.now (tree_of self.now) < COST_LIMIT) × (w ≡ root_word M.KIND query.now (tree_of self.now))) }
+        ensures { let tree = tree_of self.now in
+            let total = cost M.KIND query.now tree in
+            MatchOption result
+            (COST_LIMIT ≤ total)
+            (λ w. (total < COST_LIMIT) × (w ≡ root_word M.KIND query.now tree)) }
     {
+        // its clause says what every query keeps
         let _n = query.n();
         let cost = self.cost(model, query);
         match self {

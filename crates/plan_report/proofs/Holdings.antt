@@ -1,5 +1,5 @@
 -- A report that gains an entry holds one more.
-use Rattle.std.proofs.Common.{◌≡◌, List, [], ◌∷◌, ◌++◌, map, ◌∙◌, sym, ap, refl}
+use Rattle.std.proofs.Common.{◌≡◌, List, [], ◌∷◌, ◌++◌, ◌∙◌, sym, ap}
 use Rattle.std.proofs.lemmas.List.{map-append, flat_map_more}
 use Rattle.plan_report.specs.declared.report.Report.{Report}
 use Rattle.plan_report.specs.Entries.{ReportEntry}

@@ -11,9 +11,10 @@ use Rattle.cost_model.specs.Words.{word_op, word_left}
 use Rattle.join_tree.specs.Trees.{JoinTree, leaf, join, set_of, cost, root_word, Legal, HasWord, Best, Plan}
 use Rattle.plan_report.specs.declared.plan.Root.{Root}
 use Rattle.plan_report.specs.Words.{IsSide, IsRoot}
-use Rattle.join_tree.proofs.Substructure.{operators_few}
+use Rattle.cost_model.proofs.CostLaws.{operators_few}
 use Rattle.join_tree.proofs.TreeLaws.{legal_connected}
-use Rattle.join_tree.proofs.BestLaws.{best_below, legal_small, join_word, plan_join}
+use Rattle.join_tree.proofs.BestLaws.{best_below, legal_small, join_word}
+use Rattle.join_tree.proofs.PlanLaws.{plan_join}
 
 -- the least relation of a set of one is the set
 pub least_alone : (s r : ℕ) → size s ≡ 1 → IsLeast s r → s ≡ single r

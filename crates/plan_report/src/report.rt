@@ -32,13 +32,14 @@ pub struct Report {
 }
 
 impl Report {
-    ghost use Rattle.std.specs.Prelude.{◌≡◌, ◌<◌, [], length, IfOk, OnOk, OnErr};
+    ghost use Rattle.std.specs.Prelude.{◌≡◌, ◌<◌, [], ◌∷◌, ◌++◌, length, IfOk, OnOk, OnErr, true};
+    ghost use Rattle.serde_json.specs.View.{view};
     ghost use Rattle.dpe_base.specs.Queries.{relations};
     ghost use Rattle.join_graph.specs.Graphs.{graph_of};
     ghost use Rattle.join_tree.specs.Trees.{Legal, cost};
     ghost use Rattle.join_tree.specs.TreeOf.{tree_of};
     ghost use Rattle.plan_report.specs.Entries.{planned, refused};
-    ghost use Rattle.plan_report.specs.Json.{report_line};
+    ghost use Rattle.plan_report.specs.Json.{is_plain, report_line};
     ghost use Rattle.plan_report.specs.Reports.{format_of, text_in, entries_in, Appends, Keeps};
 
     /// A report without entries. It takes no memory.
@@ -53,6 +54,26 @@ impl Report {
             text: String::new(alloc),
             entries: Vec::new(alloc),
         }
+    }
+
+    fn push_text(&mut self, entry: &str) -> Result<(), AllocError>
+        ensures format { format_of self.new ≡ format_of self.old }
+        ensures entries { entries_in self.new ≡ entries_in self.old }
+        ensures ok { OnOk result (text_in self.new ≡ text_in self.old ++ entry.now) }
+        ensures err { OnErr result (text_in self.new ≡ text_in self.old) }
+    {
+        self.text.push_str(entry)
+    }
+
+    fn push_value(&mut self, entry: Value) -> Result<(), AllocError>
+        requires { is_plain entry ≡ true }
+        ensures format { format_of self.new ≡ format_of self.old }
+        ensures text { text_in self.new ≡ text_in self.old }
+        ensures ok { OnOk result (entries_in self.new ≡ entries_in self.old ++ view entry ∷ []) }
+        ensures err { OnErr result (entries_in self.new ≡ entries_in self.old) }
+    {
+        self.entries.push(entry)?;
+        Ok(())
     }
 
     /// Appends the entry of a query with this plan and number of pairs, and with the statistics where they are given.
@@ -70,8 +91,14 @@ impl Report {
         requires legal { Legal M.KIND (graph_of query.now) (tree_of tree.now) }
         requires word { cost M.KIND query.now (tree_of tree.now) < COST_LIMIT }
         ensures ok { OnOk result (Appends self.old self.new (planned (record {
-            name = name.now; aliases = aliases.now; kind = M.KIND; query = query.now;
-            tree = tree_of tree.now; pairs = pairs; stats = stats }))) }
+          name = name.now;
+          aliases = aliases.now;
+          kind = M.KIND;
+          query = query.now;
+          tree = tree_of tree.now;
+          pairs = pairs;
+          stats = stats;
+        }))) }
         ensures err { OnErr result (Keeps self.old self.new) }
     {
         let cost = cost_of(query, model, tree);
@@ -82,13 +109,12 @@ impl Report {
                 write_head(&mut entry, name, cost, rows, pairs)?;
                 write_plan(&mut entry, aliases, query, model, 0, tree)?;
                 write_stats(&mut entry, stats)?;
-                self.text.push_str(entry.as_str())
+                self.push_text(entry.as_str())
             }
             Format::Json => {
                 let plan = plan_value(self.alloc, aliases, query, model, tree)?;
                 let entry = planned_value(self.alloc, name, cost, rows, pairs, plan, stats)?;
-                self.entries.push(entry)?;
-                Ok(())
+                self.push_value(entry)
             }
         }
     }
@@ -102,12 +128,11 @@ impl Report {
             Format::Text => {
                 let mut entry = String::new(self.alloc);
                 write_refused(&mut entry, name, why)?;
-                self.text.push_str(entry.as_str())
+                self.push_text(entry.as_str())
             }
             Format::Json => {
                 let entry = refused_value(self.alloc, name, why)?;
-                self.entries.push(entry)?;
-                Ok(())
+                self.push_value(entry)
             }
         }
     }

@@ -1,4 +1,11 @@
+pub mod Binds
+pub mod Finds
+pub mod Firsts
+pub mod JsonLaws
 pub mod Keys
 pub mod Lists
+pub mod NameLaws
 pub mod Passes
-pub mod JsonLaws
+pub mod QueryLaws
+pub mod UnreachedLaws
+pub mod WalkLaws

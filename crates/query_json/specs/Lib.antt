@@ -1,6 +1,12 @@
 pub mod Answer
+pub mod Columns
 pub mod Entries
+pub mod Laws
+pub mod Limits
 pub mod Names
-pub mod Parts
-pub mod Walk
+pub mod Queries
+pub mod Scope
+pub mod Sound
 pub mod Texts
+pub mod Unreached
+pub mod Walk

@@ -1,6 +1,8 @@
 -- The walk of a workload file: what stands at each site, and the first place that breaks the format.
-use Rattle.std.specs.Prelude.{ℕ, ◌+◌, ◌^◌, ◌&&◌, ◌||◌, ◌==◌, not, nat_le, List, [], ◌∷◌, length, Bool, if◌then◌else◌, Option, Some, None, option_and_then, option_map, is_some, Result, Ok, Err, codes}
+use Rattle.std.specs.Prelude.{ℕ, ◌+◌, ◌&&◌, ◌||◌, ◌==◌, not, nat_le, List, [], ◌∷◌, length, Bool, if◌then◌else◌, Option, Some, None, option_and_then, option_map, is_some, Result, Ok, Err, codes}
 use Rattle.std.specs.List.{list_all}
+use Rattle.dpe_base.specs.declared.TheConstants.{INPUT_CAP, PREDS_MAX}
+use Rattle.query_json.specs.declared.TheConstants.{NAME_MAX, COLUMNS_MAX}
 use Rattle.serde_json.specs.Data.{Data, null, Items, no_items, item}
 use Rattle.serde_json.specs.Find.{get, as_number, as_u64, as_str, as_array, as_object}
 use Rattle.query_json.specs.declared.place.Site.{Site}
@@ -24,12 +26,13 @@ place s i j = record { site = s; i = i; j = j }
 
 -- ---- what may stand at a site
 
--- 1 to 128 bytes, none below 32 and none 127
+-- no control character
 abbrev pub is_printable : ℕ → Bool
 is_printable b = nat_le 32 b && not (b == 127)
 
+-- a name has at least one byte, and each is printable
 abbrev pub is_name : List ℕ → Bool
-is_name s = nat_le 1 (length s) && nat_le (length s) 128 && list_all is_printable s
+is_name s = nat_le 1 (length s) && nat_le (length s) NAME_MAX && list_all is_printable s
 
 abbrev pub as_name : Data → Option (List ℕ)
 as_name d = option_and_then (λ s. if is_name s then Some s else None) (as_str d)
@@ -49,21 +52,37 @@ as_list limit d = option_and_then (λ ds. if nat_le (item_count ds) limit then S
 abbrev pub object_at : Place → Data → Result (Unit {0}) FileFault
 object_at p d = if is_some (as_object d) then Ok tt else Err (Shape p)
 
+abbrev pub or_shape : {X : Type 0} → Place → Option X → Result X FileFault
+or_shape p None = Err (Shape p)
+or_shape p (Some x) = Ok x
+
 -- a member that must be there
 abbrev pub required : {X : Type 0} → (Data → Option X) → Place → Option Data → Result X FileFault
-required f p None = Err (Shape p)
-required f p (Some d) = elim (f d) [ None ↦ Err (Shape p) | Some x ↦ Ok x ]
+required f p member = or_shape p (option_and_then f member)
 
--- a member that may be absent or null
+-- a member that is null counts as absent
+abbrev pub present : Option Data → Option Data
+present None = None
+present (Some null) = None
+present (Some d) = Some d
+
+abbrev pub where_present : {X : Type 0} → (Data → Option X) → Place → Option Data → Result (Option X) FileFault
+where_present f p None = Ok None
+where_present f p (Some d) = or_shape p (f d) >>= λ x. Ok (Some x)
+
+-- a member that may be absent
 abbrev pub optional : {X : Type 0} → (Data → Option X) → Place → Option Data → Result (Option X) FileFault
-optional f p None = Ok None
-optional f p (Some null) = Ok None
-optional f p (Some d) = elim (f d) [ None ↦ Err (Shape p) | Some x ↦ Ok (Some x) ]
+optional f p member = where_present f p (present member)
 
 -- the items of an array, one after the other
 abbrev pub each : {X : Type 0} → (ℕ → Data → Result X FileFault) → ℕ → Items → Result (List X) FileFault
 each f at no_items = Ok []
 each f at (item d ds) = f at d >>= λ x. each f (at + 1) ds >>= λ xs. Ok (x ∷ xs)
+
+-- no items where there is no array
+abbrev pub each_given : {X : Type 0} → (ℕ → Data → Result X FileFault) → Option Items → Result (List X) FileFault
+each_given f None = Ok []
+each_given f (Some ds) = each f 0 ds
 
 -- ---- the sites
 
@@ -77,19 +96,19 @@ unfoldable pub column_at : ℕ → ℕ → Data → Result Column FileFault
 column_at i j d = do
   fields ← object_at (place site.Column i j) d
   name ← required as_name (place site.ColumnName i j) (get (codes "name") d)
-  distinct ← required (as_whole (2 ^ 40)) (place site.Distinct i j) (get (codes "distinct") d)
+  distinct ← required (as_whole INPUT_CAP) (place site.Distinct i j) (get (codes "distinct") d)
   Ok (record { name = name; distinct = distinct })
 
 unfoldable pub columns_at : ℕ → Option Data → Result (List Column) FileFault
 columns_at i member = do
-  found ← optional (as_list 4096) (place site.Columns i 0) member
-  elim found [ None ↦ Ok [] | Some ds ↦ each (column_at i) 0 ds ]
+  found ← optional (as_list COLUMNS_MAX) (place site.Columns i 0) member
+  each_given (column_at i) found
 
 unfoldable pub table_at : ℕ → ℕ → Data → Result Table FileFault
 table_at outer i d = do
   fields ← object_at (place site.Table i 0) d
   name ← required as_name (place site.TableName i 0) (get (codes "name") d)
-  rows ← required (as_whole (2 ^ 40)) (place site.TableRows i 0) (get (codes "rows") d)
+  rows ← required (as_whole INPUT_CAP) (place site.TableRows i 0) (get (codes "rows") d)
   columns ← columns_at i (get (codes "columns") d)
   Ok (record { name = name; rows = rows; columns = columns })
 
@@ -129,8 +148,8 @@ join_at i j d = do
 
 unfoldable pub joins_at : ℕ → Option Data → Result (List JoinItem) FileFault
 joins_at i member = do
-  found ← optional (as_list 1024) (place site.Joins i 0) member
-  elim found [ None ↦ Ok [] | Some ds ↦ each (join_at i) 0 ds ]
+  found ← optional (as_list PREDS_MAX) (place site.Joins i 0) member
+  each_given (join_at i) found
 
 unfoldable pub query_at : ℕ → ℕ → Data → Result QueryItem FileFault
 query_at outer i d = do

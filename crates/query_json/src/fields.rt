@@ -8,6 +8,7 @@ ghost use Rattle.query_json.specs.Answer.{Gives, GivesBy};
 ghost use Rattle.query_json.specs.declared.fault.FileFault.{FileFault};
 ghost use Rattle.query_json.specs.Walk.{is_printable, is_name, as_name, as_whole, as_list, as_version, as_pair, as_ratio, object_at, required, optional, each};
 
+use crate::NAME_MAX;
 use crate::fault::FileFault;
 use crate::file::Ratio;
 use crate::items::Items;
@@ -25,7 +26,7 @@ fn is_printable(bytes: &[u8]) -> bool
 fn is_name(text: &str) -> bool
     ensures { result ≡ is_name text.now }
 {
-    1 <= text.len() && text.len() <= 128 && is_printable(text.as_bytes())
+    1 <= text.len() && text.len() <= NAME_MAX && is_printable(text.as_bytes())
 }
 
 pub fn name_of(alloc: Global, member: Option<&Value>, place: Place) -> Result<Name, FileFault>

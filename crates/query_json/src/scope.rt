@@ -1,4 +1,10 @@
-//! The relations of a query by their aliases.
+//! The relations of a query, found by their aliases.
+ghost use Rattle.std.specs.Prelude.{◌≡◌, option_map, position, map};
+ghost use Rattle.std.specs.Str.{bytes_eq};
+ghost use Rattle.query_json.specs.declared.refusal.QueryRefusal.TheVariants.{UnknownAlias};
+ghost use Rattle.query_json.specs.Answer.{Tells};
+ghost use Rattle.query_json.specs.Queries.{count_named, count_of, ends_of, most_distinct, relation_number};
+
 use crate::file::{JoinItem, RelationItem};
 use crate::names::number_of;
 use crate::refusal::{QueryRefusal, Stop};
@@ -6,52 +12,88 @@ use crate::tables::Tables;
 use dpe_base::Name;
 use indexmap::IndexSet;
 use std::alloc::Global;
+use std::marker::Model;
 
-/// The numbers of a join's two relations.
+/// The numbers of the relations at a join's ends.
 #[derive(Clone, Copy, Debug, PartialEq, Eq)]
 pub struct Ends {
-    pub left: u8,
-    pub right: u8,
+    pub left: usize,
+    pub right: usize,
 }
 
-/// The relations of a query, found by their aliases.
+/// The relations of a query over the tables of the file.
 #[derive(Drop)]
 pub struct Scope<'a> {
-    pub tables: &'a Tables<'a>,
-    pub relations: &'a [RelationItem],
-    pub aliases: IndexSet<&'a str>,
+    tables: &'a Tables<'a>,
+    relations: &'a [RelationItem],
+    aliases: IndexSet<&'a str>,
 }
 
-impl Scope<'_> {
-    fn number(&self, alloc: Global, alias: &Name) -> Result<u8, Stop> {
+impl<'a> Model for Scope<'a> {
+    ghost use Rattle.std.specs.Prelude.{◌≡◌, map};
+    ghost use Rattle.query_json.specs.Scope.{Scope};
+
+    ghost Value = { Scope };
+
+    ghost view = { λ s. record { tables = s.tables.now; relations = s.relations.now } };
+
+    ghost invariant = { λ s. map (λ k. k.now) s.aliases.keys ≡ map (λ r. r.alias) s.relations.now };
+}
+
+impl<'a> Scope<'a> {
+    pub fn new(
+        tables: &'a Tables<'a>,
+        relations: &'a [RelationItem],
+        aliases: IndexSet<&'a str>,
+    ) -> Scope<'a>
+        requires { map (λ k. k.now) aliases.keys ≡ map (λ r. r.alias) relations.now }
+        ensures { result ≡ record { tables = tables.entry.now; relations = relations.entry.now } }
+    {
+        Scope {
+            tables,
+            relations,
+            aliases,
+        }
+    }
+
+    fn number(&self, alloc: Global, alias: &Name) -> Result<usize, Stop>
+        ensures { Tells (λ n. n) result (relation_number self.now.relations (UnknownAlias alias.now) alias.now) }
+    {
         match number_of(&self.aliases, alias.text()) {
-            Some(number) if number < 256 => Ok(number as u8),
-            _ => {
+            Some(number) => Ok(number),
+            None => {
                 let alias = Name::copy(alloc, alias)?;
                 Err(Stop::Refused(QueryRefusal::UnknownAlias(alias)))
             }
         }
     }
 
-    /// The numbers of a join's two relations, the left one looked up first.
-    pub fn ends(&self, alloc: Global, join: &JoinItem) -> Result<Ends, Stop> {
+    /// The numbers of the relations at a join's ends. The left end is looked up first.
+    pub fn ends(&self, alloc: Global, join: &JoinItem) -> Result<Ends, Stop>
+        ensures { Tells (λ e. e) result (ends_of self.now.relations join.now) }
+    {
         let left = self.number(alloc, &join.left)?;
         let right = self.number(alloc, &join.right)?;
         Ok(Ends { left, right })
     }
 
-    fn find_count(&self, alias: &Name, column: &Name) -> Option<u64> {
+    fn count_named(&self, alias: &Name, column: &Name) -> Option<u64>
+        ensures { result ≡ count_named self.now.tables self.now.relations alias.now column.now }
+    {
         let number = number_of(&self.aliases, alias.text())?;
         let relation = self.relations.get(number)?;
         self.tables.distinct(relation.table.text(), column.text())
     }
 
-    // The distinct count of the column at a join's end, and 1 where no column is given.
-    fn count(&self, alloc: Global, alias: &Name, column: Option<&Name>) -> Result<u64, Stop> {
+    // The distinct count of the column at a join's end: 1 where none is given.
+    fn count(&self, alloc: Global, alias: &Name, column: Option<&Name>) -> Result<u64, Stop>
+        ensures { Tells (λ n. n) result
+            (count_of self.now.tables self.now.relations alias.now (option_map (λ c. c.now) column.entry)) }
+    {
         let Some(column) = column else {
             return Ok(1);
         };
-        match self.find_count(alias, column) {
+        match self.count_named(alias, column) {
             Some(count) => Ok(count),
             None => {
                 let alias = Name::copy(alloc, alias)?;
@@ -61,8 +103,11 @@ impl Scope<'_> {
         }
     }
 
-    /// The greatest of 1 and the distinct counts of the join's columns, the left one looked up first.
-    pub fn most_distinct(&self, alloc: Global, join: &JoinItem) -> Result<u64, Stop> {
+    /// The greatest of 1 and the distinct counts of a join's columns. The left one is looked up first.
+    #[tactic(auto, unfolding(crate::specs::Queries::most_distinct))]
+    pub fn most_distinct(&self, alloc: Global, join: &JoinItem) -> Result<u64, Stop>
+        ensures { Tells (λ n. n) result (most_distinct self.now.tables self.now.relations join.now) }
+    {
         let left = self.count(alloc, &join.left, join.left_column.as_ref())?;
         let right = self.count(alloc, &join.right, join.right_column.as_ref())?;
         Ok(left.max(right).max(1))

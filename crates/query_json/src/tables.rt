@@ -1,9 +1,18 @@
-//! The tables of a file, found by their names, and their columns.
-use crate::file::{Column, Table};
+//! The tables of a file, found by name.
+ghost use Rattle.std.specs.Prelude.{◌≡◌, IfOk, map, option_and_then, option_map};
+ghost use Rattle.query_json.specs.Columns.{distinct_in};
+ghost use Rattle.query_json.specs.Entries.{table_names, tables_of};
+ghost use Rattle.query_json.specs.Answer.{Gives, GivesBy};
+ghost use Rattle.query_json.specs.Queries.{table_named};
+
+use crate::columns::Columns;
+use crate::fault::FileFault;
+use crate::file::Table;
 use crate::names::{HasName, Repeat, distinct, number_of};
 use dpe_base::Name;
-use indexmap::{IndexMap, IndexSet};
+use indexmap::IndexSet;
 use std::alloc::{AllocError, Global};
+use std::marker::Model;
 
 impl HasName for Table {
     ghost label = { λ t. t.name };
@@ -13,63 +22,75 @@ impl HasName for Table {
     }
 }
 
-/// The tables of a file.
+/// The tables of a file, which contracts see as their list.
 #[derive(Drop)]
 pub struct Tables<'a> {
     tables: &'a [Table],
     names: IndexSet<&'a str>,
-    counts: Vec<IndexMap<&'a str, u64>>,
+    columns: Vec<Columns<'a>>,
 }
 
-// The distinct counts by the columns' names: of two columns of one name the first counts.
-fn column_counts<'a>(
-    alloc: Global,
-    columns: &'a [Column],
-) -> Result<IndexMap<&'a str, u64>, AllocError> {
-    let mut counts = IndexMap::new(alloc);
-    for column in columns {
-        let name = column.name.text();
-        if !counts.contains_key(name) {
-            counts.insert(name, column.distinct)?;
-        }
-    }
-    Ok(counts)
+impl<'a> Model for Tables<'a> {
+    ghost use Rattle.std.specs.Prelude.{◌≡◌, List, map};
+    ghost use Rattle.query_json.specs.declared.file.Table.{Table};
+
+    ghost Value = { List Table };
+
+    ghost view = { λ t. t.tables.now };
+
+    ghost invariant = { λ t. (map (λ k. k.now) t.names.keys ≡ map (λ x. x.name) t.tables.now)
+        × (t.columns.items ≡ map (λ x. x.columns) t.tables.now) };
 }
 
-fn all_counts<'a>(
-    alloc: Global,
-    tables: &'a [Table],
-) -> Result<Vec<IndexMap<&'a str, u64>>, AllocError> {
-    let mut counts = Vec::new(alloc);
+fn all_columns<'a>(alloc: Global, tables: &'a [Table]) -> Result<Vec<Columns<'a>>, AllocError>
+    ensures { IfOk result (λ v. v.items ≡ map (λ t. t.columns) tables.entry.now) }
+{
+    let mut all = Vec::new(alloc);
     for table in tables {
-        let one = column_counts(alloc, table.columns.as_slice())?;
-        counts.push(one)?;
+        let columns = Columns::new(alloc, table.columns.as_slice())?;
+        all.push(columns)?;
     }
-    Ok(counts)
+    Ok(all)
+}
+
+fn table_names<'a>(alloc: Global, tables: &'a [Table]) -> Result<IndexSet<&'a str>, FileFault>
+    ensures { GivesBy (λ s. map (λ k. k.now) s.keys) result (table_names tables.entry.now) }
+{
+    match distinct(alloc, tables) {
+        Ok(names) => Ok(names),
+        Err(Repeat::Memory) => Err(FileFault::NoMemory),
+        Err(Repeat::Name(name)) => Err(FileFault::DuplicateTable(name)),
+    }
 }
 
 impl<'a> Tables<'a> {
-    pub fn new(alloc: Global, tables: &'a [Table]) -> Result<Tables<'a>, Repeat> {
-        let names = distinct(alloc, tables)?;
-        let counts = all_counts(alloc, tables)?;
+    #[tactic(auto, using(crate::proofs::NameLaws::table_names_are))]
+    pub fn new(alloc: Global, tables: &'a [Table]) -> Result<Tables<'a>, FileFault>
+        ensures { Gives result (tables_of tables.entry.now) }
+    {
+        let names = table_names(alloc, tables)?;
+        let columns = all_columns(alloc, tables)?;
         Ok(Tables {
             tables,
             names,
-            counts,
+            columns,
         })
     }
 
-    /// The rows of the table of a name.
-    pub fn rows(&self, name: &str) -> Option<u64> {
+    /// The table of a name.
+    pub fn named(&self, name: &str) -> Option<&'a Table>
+        ensures { option_map (λ t. t.now) result ≡ table_named self.now name.now }
+    {
         let number = number_of(&self.names, name)?;
-        let table = self.tables.get(number)?;
-        Some(table.rows)
+        self.tables.get(number)
     }
 
     /// The distinct count of the first column of a name, in the table of a name.
-    pub fn distinct(&self, table: &str, column: &str) -> Option<u64> {
+    pub fn distinct(&self, table: &str, column: &str) -> Option<u64>
+        ensures { result ≡ option_and_then (λ t. distinct_in column.now t.columns) (table_named self.now table.now) }
+    {
         let number = number_of(&self.names, table)?;
-        let counts = self.counts.get(number)?;
-        counts.get(column).copied()
+        let columns = self.columns.get(number)?;
+        columns.distinct(column)
     }
 }

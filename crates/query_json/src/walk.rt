@@ -1,10 +1,12 @@
 //! Reading the whole file.
-ghost use Rattle.std.specs.Prelude.{◌≡◌, ℕ, Result, option_map};
+ghost use Rattle.std.specs.Prelude.{◌≡◌, ℕ, IfOk, Result, option_map};
 ghost use Rattle.serde_json.specs.Data.{Data};
 ghost use Rattle.serde_json.specs.View.{view};
 ghost use Rattle.query_json.specs.Answer.{Gives, GivesBy};
+ghost use Rattle.query_json.specs.Limits.{IsFileWithin};
 ghost use Rattle.query_json.specs.Walk.{column_at, columns_at, table_at, relation_at, selectivity_at, join_at, joins_at, query_at, file_at, json_at, file_of};
 
+use crate::COLUMNS_MAX;
 use crate::fault::FileFault;
 use crate::fields::{
     Element, array_of, elements, name_of, object_of, optional_array_of, optional_name_of,
@@ -13,14 +15,9 @@ use crate::fields::{
 use crate::file::{Column, File, JoinItem, QueryItem, Ratio, RelationItem, Table};
 use crate::items::Items;
 use crate::place::{Place, Site};
+use dpe_base::{INPUT_CAP, PREDS_MAX};
 use serde_json::Value;
 use std::alloc::Global;
-
-const MAX_ROWS: u64 = 1 << 40;
-
-const MAX_COLUMNS: usize = 4096;
-
-const MAX_JOINS: usize = 1024;
 
 fn place(site: Site, i: u64, j: u64) -> Place
     ensures { result ≡ record { site = site; i = i; j = j } }
@@ -37,7 +34,7 @@ impl Element for Column {
         let name = name_of(alloc, value.get("name"), place(Site::ColumnName, outer, at))?;
         let distinct = whole_of(
             value.get("distinct"),
-            MAX_ROWS,
+            INPUT_CAP,
             place(Site::Distinct, outer, at),
         )?;
         Ok(Column { name, distinct })
@@ -48,7 +45,7 @@ impl Element for Column {
 fn columns_of(alloc: Global, i: u64, member: Option<&Value>) -> Result<Items<Column>, FileFault>
     ensures { Gives result (columns_at i (option_map (λ v. view v.now) member.entry)) }
 {
-    match optional_array_of(member, MAX_COLUMNS, place(Site::Columns, i, 0))? {
+    match optional_array_of(member, COLUMNS_MAX, place(Site::Columns, i, 0))? {
         Some(values) => elements(alloc, i, values),
         None => Ok(Items::new(alloc)),
     }
@@ -61,7 +58,7 @@ impl Element for Table {
     fn read(alloc: Global, outer: u64, at: u64, value: &Value) -> Result<Self, FileFault> {
         object_of(value, place(Site::Table, at, 0))?;
         let name = name_of(alloc, value.get("name"), place(Site::TableName, at, 0))?;
-        let rows = whole_of(value.get("rows"), MAX_ROWS, place(Site::TableRows, at, 0))?;
+        let rows = whole_of(value.get("rows"), INPUT_CAP, place(Site::TableRows, at, 0))?;
         let columns = columns_of(alloc, at, value.get("columns"))?;
         Ok(Table {
             name,
@@ -141,7 +138,7 @@ impl Element for JoinItem {
 fn joins_of(alloc: Global, i: u64, member: Option<&Value>) -> Result<Items<JoinItem>, FileFault>
     ensures { Gives result (joins_at i (option_map (λ v. view v.now) member.entry)) }
 {
-    match optional_array_of(member, MAX_JOINS, place(Site::Joins, i, 0))? {
+    match optional_array_of(member, PREDS_MAX, place(Site::Joins, i, 0))? {
         Some(values) => elements(alloc, i, values),
         None => Ok(Items::new(alloc)),
     }
@@ -166,7 +163,7 @@ impl Element for QueryItem {
 }
 
 #[tactic(auto, unfolding(crate::specs::Walk::file_at))]
-fn file_of(alloc: Global, value: &Value) -> Result<File, FileFault>
+fn walk(alloc: Global, value: &Value) -> Result<File, FileFault>
     ensures { Gives result (file_at (view value.now)) }
 {
     object_of(value, place(Site::Root, 0, 0))?;
@@ -176,6 +173,14 @@ fn file_of(alloc: Global, value: &Value) -> Result<File, FileFault>
     let query_list = array_of(value.get("queries"), place(Site::Queries, 0, 0))?;
     let queries = elements(alloc, 0, query_list)?;
     Ok(File { tables, queries })
+}
+
+#[tactic(auto, using(crate::proofs::WalkLaws::given_within))]
+fn file_at(alloc: Global, value: &Value) -> Result<File, FileFault>
+    ensures value { Gives result (file_at (view value.now)) }
+    ensures within { IfOk result IsFileWithin }
+{
+    walk(alloc, value)
 }
 
 #[tactic(auto, using(crate::proofs::JsonLaws::json_found, crate::proofs::JsonLaws::json_none))]
@@ -191,9 +196,10 @@ fn json_of(alloc: Global, bytes: &[u8]) -> Result<Value, FileFault>
 
 /// What the bytes of a file say.
 #[tactic(auto, unfolding(crate::specs::Walk::file_of))]
-pub fn read_file(alloc: Global, bytes: &[u8]) -> Result<File, FileFault>
-    ensures { Gives result (file_of bytes.now) }
+pub fn file_of(alloc: Global, bytes: &[u8]) -> Result<File, FileFault>
+    ensures value { Gives result (file_of bytes.now) }
+    ensures within { IfOk result IsFileWithin }
 {
     let value = json_of(alloc, bytes)?;
-    file_of(alloc, &value)
+    file_at(alloc, &value)
 }

@@ -35,7 +35,8 @@ impl SkipPart {
                     probes,
                 };
             }
-            place = self.after(place, blocking_len(entry, x) as usize);
+            let next = self.after(place, blocking_len(entry, x) as usize);
+            place = next;
         }
         Free {
             found: None,

@@ -1,3 +1,4 @@
 pub mod Arrays
 pub mod Lists
 pub mod Plain
+pub mod Valid

@@ -8,12 +8,21 @@ use Rattle.workload_gen.specs.declared.sample.Join.{Join}
 use Rattle.workload_gen.specs.Draws.{sample_of}
 use Rattle.workload_gen.specs.Sample.{Sample, SampleQuery}
 
--- the names t0, r1, q2 and so on
-abbrev pub name : List ℕ → ℕ → Data
-name letter n = string (letter ++ decimal n)
+-- ---- the names t0, r1, q2 and so on
 
-abbrev pub column_name : Data
-column_name = string (codes "k")
+abbrev pub table_name : ℕ → List ℕ
+table_name t = codes "t" ++ decimal t
+
+abbrev pub query_name : ℕ → List ℕ
+query_name j = codes "q" ++ decimal j
+
+abbrev pub alias : ℕ → List ℕ
+alias i = codes "r" ++ decimal i
+
+abbrev pub column_name : List ℕ
+column_name = codes "k"
+
+-- ---- values
 
 abbrev pub whole : ℕ → Data
 whole n = number (unsigned n)
@@ -31,29 +40,29 @@ values value at (x ∷ xs) = item (value at x) (values value (at + 1) xs)
 abbrev pub column_value : ℕ → Data
 column_value distinct = object
     (member (codes "distinct") (whole distinct)
-    (member (codes "name") column_name no_members))
+    (member (codes "name") (string column_name) no_members))
 
 unfoldable pub table_value : ℕ → Table → Data
 table_value t table = object
     (member (codes "columns") (array (item (column_value table.distinct) no_items))
-    (member (codes "name") (name (codes "t") t)
+    (member (codes "name") (string (table_name t))
     (member (codes "rows") (whole table.rows) no_members)))
 
 unfoldable pub relation_value : ℕ → Relation → Data
 relation_value i relation = object
-    (member (codes "alias") (name (codes "r") i)
+    (member (codes "alias") (string (alias i))
     (member (codes "filter") (pair (whole relation.kept) (whole 100))
-    (member (codes "table") (name (codes "t") relation.table) no_members)))
+    (member (codes "table") (string (table_name relation.table)) no_members)))
 
 abbrev pub join_value_by : ℕ → ℕ → Option ℕ → Data
 join_value_by left right None = object
-    (member (codes "left") (name (codes "r") left)
-    (member (codes "left_column") column_name
-    (member (codes "right") (name (codes "r") right)
-    (member (codes "right_column") column_name no_members))))
+    (member (codes "left") (string (alias left))
+    (member (codes "left_column") (string column_name)
+    (member (codes "right") (string (alias right))
+    (member (codes "right_column") (string column_name) no_members))))
 join_value_by left right (Some one_in) = object
-    (member (codes "left") (name (codes "r") left)
-    (member (codes "right") (name (codes "r") right)
+    (member (codes "left") (string (alias left))
+    (member (codes "right") (string (alias right))
     (member (codes "selectivity") (pair (whole 1) (whole one_in)) no_members)))
 
 unfoldable pub join_value : ℕ → Join → Data
@@ -62,7 +71,7 @@ join_value k join = join_value_by join.left join.right join.one_in
 unfoldable pub query_value : ℕ → SampleQuery → Data
 query_value j query = object
     (member (codes "joins") (array (values join_value 0 query.joins))
-    (member (codes "name") (name (codes "q") j)
+    (member (codes "name") (string (query_name j))
     (member (codes "relations") (array (values relation_value 0 query.relations)) no_members)))
 
 unfoldable pub workload_value : Sample → Data

@@ -1,8 +1,7 @@
 use Rattle.std.proofs.Common.{arith}
 use Rattle.join_graph.specs.Graphs.{graph_of}
 use Rattle.join_tree.specs.TreeOf.{tree_of}
-use Rattle.join_tree.proofs.TreeLaws.{legal_connected}
-use Rattle.join_tree.proofs.TreeCosts.{legal_leaves}
+use Rattle.join_tree.proofs.TreeLaws.{legal_connected, legal_leaves}
 use Rattle.plan_report.proofs.numbers.rows_of.Goals as goal
 
 pub set-requires : goal.set-requires

@@ -1,4 +1,4 @@
-use Rattle.std.proofs.Common.{◌≡◌, ◌≢◌, ℕ, ◌∷◌, [], List, ◌<◌, ◌∙◌, arith, sym, subst, slice_index}
+use Rattle.std.proofs.Common.{◌≡◌, ◌≢◌, ℕ, ◌∷◌, [], ◌<◌, ◌∙◌, arith, sym, subst, slice_index}
 use Rattle.dpe_base.specs.Queries.{JoinQuery, relations}
 use Rattle.dpe_base.specs.Sets.{Has, Within, single}
 use Rattle.dpe_base.proofs.SetLaws.{sets, same_set}

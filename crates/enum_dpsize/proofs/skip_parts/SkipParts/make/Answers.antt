@@ -1,4 +1,4 @@
-use Rattle.std.proofs.Common.{◌≡◌, ◌<◌, ◌+◌, ◌-◌, ◌++◌, ◌∷◌, [], ◌∙◌, ap, sym, arith, map, take, length, get_or, ℕ, List}
+use Rattle.std.proofs.Common.{◌≡◌, ◌<◌, ◌+◌, ◌-◌, ◌++◌, ◌∷◌, [], ◌∙◌, ap, arith, map, length, get_or, ℕ, List}
 use Rattle.std.proofs.lemmas.List.{map-append, take_all}
 use Rattle.enum_dpsize.proofs.PartLists.{first_known, parts_few, count_is, parts_can_skip, part_added}
 use Rattle.enum_dpsize.proofs.skip_parts.SkipParts.make.Goals as goal
@@ -35,11 +35,11 @@ loop-k-preserved c =
     let k : c.loop-k.k + 1 - 1 ≡ c.loop-k.k = omega arith in
     let read : xs ≡ get_or parts c.loop-k.k xs = c.part-part.ensures ∙ ap (λ i. get_or parts i xs) k in (
       part_added parts c.loop-k.k (map (λ v. v.items) c.loop-k.lists.items) (map (λ v. v.items) c.push.new.self.items) xs c.loop-k.invariant.0 l read
-      (ap (map (λ v. v.items)) c.in_ok-push.ensures.items
+          (ap (map (λ v. v.items)) c.in_ok-push.ensures.items
           ∙ map-append (λ v. v.items) c.loop-k.lists.items (c.in_ok-list.list ∷ [])
           ∙ ap (λ (ys : List ℕ). map (λ v. v.items) c.loop-k.lists.items ++ ys ∷ []) c.in_ok-list.ensures.items),
       part_added parts c.loop-k.k c.loop-k.skips.items c.push-in-loop-k.new.self.items xs c.loop-k.invariant.1 l read
-      (c.in_ok-push-2.ensures.items ∙ ap (λ (ys : List ℕ). c.loop-k.skips.items ++ ys ∷ []) c.in_ok-skip.ensures),
+          (c.in_ok-push-2.ensures.items ∙ ap (λ (ys : List ℕ). c.loop-k.skips.items ++ ys ∷ []) c.in_ok-skip.ensures),
     )
 
 pub returns : goal.returns

@@ -1,9 +1,8 @@
-use Rattle.std.proofs.Common.{◌≡◌, true, ◌∙◌, ap, sym, arith}
+use Rattle.std.proofs.Common.{◌∙◌, ap, sym, arith}
 use Rattle.dpe_base.specs.Sets.{full}
 use Rattle.join_tree.specs.TreeOf.{tree_of}
 use Rattle.plan_report.proofs.Legals.{full_some, legal_height_small}
-use Rattle.plan_report.specs.Json.{is_plain}
-use Rattle.plan_report.proofs.Plain.{planned_plain, plain_either}
+use Rattle.plan_report.proofs.Plain.{planned_plain}
 use Rattle.plan_report.proofs.report.Report.planned.Goals as goal
 
 pub rows_once-rows-requires-clause-some : goal.rows_once-rows-requires-clause-some
@@ -13,8 +12,6 @@ pub write_plan-requires-clause-fits : goal.write_plan-requires-clause-fits
 write_plan-requires-clause-fits g c =
     omega (arith, legal_height_small g.M.CostModel.KIND c.args.query.now (tree_of c.args.tree.now) c.n.ensures.valid c.requires.legal)
 
-pub invariant_of-self-in-Json : goal.invariant_of-self-in-Json
-invariant_of-self-in-Json g c =
-    let entry : is_plain c.in_ok-entry-in-Json.entry ≡ true =
-    planned_plain c.in_ok-entry-in-Json.entry c.in_ok-plan-in-Json.plan _ _ _ _ _ _ _ _ _ c.in_ok-entry-in-Json.ensures c.in_ok-plan-in-Json.ensures in
-    record { plain = rw c.push.ensures.items (plain_either _ c.args.self.now.entries.items c.in_ok-entry-in-Json.entry c.args.self.now.plain entry) }
+pub push_value-requires : goal.push_value-requires
+push_value-requires g c =
+    planned_plain c.in_ok-entry-in-Json.entry c.in_ok-plan-in-Json.plan _ _ _ _ _ _ _ _ _ c.in_ok-entry-in-Json.ensures c.in_ok-plan-in-Json.ensures

@@ -1,0 +1,4 @@
+pub mod PairCount
+pub mod Planning
+pub mod Plans
+pub mod Reporting

@@ -1,0 +1,6 @@
+use Rattle.std.proofs.Common.{subst}
+use Rattle.dpe_top.proofs.Plans.{plan_below}
+use Rattle.dpe_top.proofs.report.append_planned.Goals as goal
+
+pub planned-requires-clause-word : goal.planned-requires-clause-word
+planned-requires-clause-word g c κs within = plan_below g.M.CostModel.KIND c.args.named.now.query _ _ c.n.ensures.valid c.in_ok-tree.ensures

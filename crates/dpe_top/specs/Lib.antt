@@ -1,0 +1,6 @@
+pub mod Words
+pub mod Planning
+pub mod Reports
+pub mod Lines
+pub mod Reply
+pub mod Replies

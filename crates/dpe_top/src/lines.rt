@@ -1,0 +1,52 @@
+//! The lines that are written in place of a report.
+ghost use Rattle.std.specs.Prelude.{◌≡◌, ◌++◌, IfOk, OnOk, string_bytes};
+ghost use Rattle.dpe_top.specs.Lines.{fault_line, fault_text, too_long_line, usage_line};
+
+use query_json::{FileFault, write_path};
+use std::alloc::{AllocError, Global};
+
+fn write_fault(out: &mut String, fault: &FileFault) -> Result<(), AllocError>
+    ensures { OnOk result (string_bytes out.new ≡ string_bytes out.old ++ fault_text fault.now) }
+{
+    match fault {
+        FileFault::NotJson => write!(out, "not JSON"),
+        FileFault::Shape(place) => {
+            write!(out, "bad shape at ")?;
+            write_path(out, *place)
+        }
+        FileFault::TooManyTables => write!(out, "more than 4096 tables"),
+        FileFault::TooManyQueries => write!(out, "more than 1024 queries"),
+        FileFault::DuplicateTable(name) => {
+            let name = name.text();
+            write!(out, "table {name} twice")
+        }
+        FileFault::NoMemory => Ok(()),
+    }
+}
+
+/// Why the file is no workload.
+#[tactic(auto, unfolding(crate::specs::Lines::fault_line))]
+pub fn fault_line(alloc: Global, fault: &FileFault) -> Result<String, AllocError>
+    ensures { IfOk result (λ s. string_bytes s ≡ fault_line fault.now) }
+{
+    let mut line = String::from_str(alloc, "input: ")?;
+    write_fault(&mut line, fault)?;
+    writeln!(line)?;
+    Ok(line)
+}
+
+/// The line for more bytes than a workload may have.
+#[tactic(auto, unfolding(crate::specs::Lines::too_long_line))]
+pub fn too_long_line() -> &'static str
+    ensures { result.now ≡ too_long_line }
+{
+    "input: more than 8388608 bytes\n"
+}
+
+/// The line for words that are no command line.
+#[tactic(auto, unfolding(crate::specs::Lines::usage_line))]
+pub fn usage_line() -> &'static str
+    ensures { result.now ≡ usage_line }
+{
+    "usage: dpe [--mode M] [--enumerator E] [--buffer N] [--workers N] [--model M] [--format F] [--stats S] [--number N]\n"
+}

@@ -1,0 +1,38 @@
+mod files;
+mod plans;
+mod refusals;
+
+use crate::{OpenGate, Status, dpe};
+use io_edge::{MemSink, MemSource};
+use std::alloc::{AllocError, Global};
+use std::thread::Threads;
+
+/// The words as the program gets them.
+fn words_of(alloc: Global, words: &[&str]) -> Result<Vec<String>, AllocError> {
+    let mut all = Vec::new(alloc);
+    for word in words {
+        all.push(String::from_str(alloc, word)?)?;
+    }
+    Ok(all)
+}
+
+/// The status and the bytes of the answer, where neither end fails.
+fn answer<R: Threads + Sync>(
+    rt: &R,
+    alloc: Global,
+    words: &[&str],
+    bytes: Vec<u8>,
+) -> Result<(Status, Vec<u8>), AllocError> {
+    let words = words_of(alloc, words)?;
+    let mut source = MemSource::new(bytes, 64, Vec::new(alloc));
+    let mut sink = MemSink::new(alloc, 8192, 64, Vec::new(alloc))?;
+    let status = dpe(
+        rt,
+        alloc,
+        words.as_slice(),
+        &mut source,
+        &mut sink,
+        &OpenGate,
+    );
+    Ok((status, sink.written().to_vec(alloc)?))
+}

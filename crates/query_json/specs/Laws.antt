@@ -1,0 +1,12 @@
+-- What the first unreached relation of a query is, in the walks of its join graph.
+use Rattle.std.specs.Prelude.{ℕ, ◌≡◌, ◌↔◌, None, Some}
+use Rattle.dpe_base.specs.Queries.{JoinQuery, IsQuery, relations}
+use Rattle.dpe_base.specs.Sets.{full}
+use Rattle.join_graph.specs.Graphs.{Connected, IsFirstUnreached, graph_of}
+use Rattle.query_json.specs.Unreached.{first_unreached}
+
+-- there is none exactly where the query is connected, and else it is the least that no walk from relation 0 reaches
+abbrev pub FirstUnreachedByWalks : Type 0
+FirstUnreachedByWalks =
+    (q : JoinQuery) → IsQuery q → ((first_unreached q ≡ None) ↔ Connected (graph_of q) (full (relations q)))
+    × ((r : ℕ) → (first_unreached q ≡ Some r) ↔ IsFirstUnreached (graph_of q) r)

@@ -1,0 +1,77 @@
+//! Reading a workload.
+ghost use Rattle.std.specs.Prelude.{◌≡◌, ◌<◌, length, Some, slice_get};
+ghost use Rattle.query_json.specs.Answer.{Gives};
+ghost use Rattle.query_json.specs.Entries.{counted, entries_of};
+ghost use Rattle.query_json.specs.Sound.{IsEntrySound};
+
+use crate::entries::entries_of;
+use crate::entry::Entry;
+use crate::fault::FileFault;
+use crate::file::File;
+use crate::items::Items;
+use crate::tables::Tables;
+use crate::walk::file_of;
+use crate::{QUERIES_MAX, TABLES_MAX};
+use std::alloc::Global;
+use std::marker::Model;
+
+/// The queries of a file in the file's order, which contracts see as the list of its entries.
+#[derive(Drop)]
+pub struct Workload {
+    entries: Items<Entry>,
+}
+
+impl Model for Workload {
+    ghost use Rattle.std.specs.Prelude.{List, All};
+    ghost use Rattle.query_json.specs.declared.entry.Entry.{Entry};
+    ghost use Rattle.query_json.specs.Sound.{IsEntrySound};
+
+    ghost Value = { List Entry };
+
+    ghost view = { λ w. w.entries };
+
+    ghost invariant = { λ w. All IsEntrySound w.entries };
+}
+
+impl Workload {
+    /// How many queries the file holds.
+    pub fn len(&self) -> usize
+        ensures { result ≡ length self.now }
+    {
+        self.entries.len()
+    }
+
+    /// The query at a place, counted from 0.
+    pub fn entry(&self, i: usize) -> &Entry
+        requires { i < length self.now }
+        ensures value { slice_get self.now i ≡ Some result.now }
+        ensures sound { IsEntrySound result.now }
+    {
+        &self.entries.as_slice()[i]
+    }
+}
+
+fn count(file: &File) -> Result<(), FileFault>
+    ensures { Gives result (counted file.now) }
+{
+    if file.tables.len() > TABLES_MAX {
+        return Err(FileFault::TooManyTables);
+    }
+    if file.queries.len() > QUERIES_MAX {
+        return Err(FileFault::TooManyQueries);
+    }
+    Ok(())
+}
+
+/// Reads the text of a workload file.
+#[tactic(auto, unfolding(crate::specs::Entries::entries_of))]
+pub fn read(alloc: Global, bytes: &[u8]) -> Result<Workload, FileFault>
+    ensures { Gives result (entries_of bytes.now) }
+{
+    let file = file_of(alloc, bytes)?;
+    count(&file)?;
+    let File { tables, queries } = file;
+    let tables = Tables::new(alloc, tables.as_slice())?;
+    let entries = entries_of(alloc, &tables, queries)?;
+    Ok(Workload { entries })
+}
