@@ -17,11 +17,12 @@ use Rattle.card_scaled.specs.Cards.{RowTable, rows, IsCardTable}
 use Rattle.cost_model.specs.Costs.{operators, join_cost}
 use Rattle.cost_model.specs.Words.{best_word, word_cost}
 use Rattle.cost_model.proofs.WordLaws.{best_below_is}
-use Rattle.cost_model.proofs.SplitLaws.{word_le}
-use Rattle.join_tree.specs.Trees.{JoinTree, leaf, join, set_of, Trees, HasWord, Made, Least, Best, SplitWord, Builds}
+use Rattle.cost_model.proofs.CostLaws.{operators_few}
+use Rattle.cost_model.proofs.WordLaws.{word_le}
+use Rattle.join_tree.specs.Trees.{JoinTree, leaf, join, set_of, Trees, HasWord, Made, Least, Best, LeastOfPair, Builds}
 use Rattle.join_tree.proofs.TreeLaws.{legal_connected, made_legal}
-use Rattle.join_tree.proofs.BestLaws.{least_best, made_not_empty}
-use Rattle.join_tree.proofs.Substructure.{optimal_substructure, operators_few}
+use Rattle.join_tree.proofs.BestLaws.{least_best, empty_never_made}
+use Rattle.join_tree.proofs.Substructure.{optimal_substructure}
 use Rattle.join_tree.proofs.TreeCosts.{rows_bounds}
 use Rattle.pair_stream.specs.Orders.{Ordered, Complete}
 use Rattle.dpe_top.specs.Planning.{IsOpening, NoneOver, LowestOver, Lowered, HasRows, MayLower, pair_word, lowered}
@@ -97,7 +98,7 @@ module _ (kind : ℕ) (q : JoinQuery) (all : List Pair) (ok : IsQuery q) (comple
   least_same : (s v w : ℕ) → Least kind q all s v → Least kind q all s w → v ≡ w
   least_same s v w a b = omega (arith, a.least w b.made, b.least v a.made)
 
-  split_same : (p : Pair) (v w : ℕ) → SplitWord kind q all p v → SplitWord kind q all p w → v ≡ w
+  split_same : (p : Pair) (v w : ℕ) → LeastOfPair kind q all p v → LeastOfPair kind q all p w → v ≡ w
   split_same p v w a b =
       a.is
       ∙ ap (λ x. best_word kind p.a p.b x a.second (rows q p.a) (rows q p.b) (rows q (union p.a p.b))) (least_same p.a a.first b.first a.least_first b.least_first)
@@ -161,7 +162,7 @@ module _ (kind : ℕ) (q : JoinQuery) (all : List Pair) (ok : IsQuery q) (comple
 
   -- the next pair lowers the word of its union
   lowered_more : (first left : List Pair) (words : List ℕ) (p : Pair) (v : ℕ) → all ≡ first ++ (p ∷ left) → Lowered kind q all first words
-      → v ≤ EMPTY → SplitWord kind q all p v
+      → v ≤ EMPTY → LeastOfPair kind q all p v
       → Lowered kind q all (first ++ (p ∷ [])) (slice_set words (union p.a p.b) (min (slice_index words (union p.a p.b)) v))
   lowered_more first left words p v e low fits split =
       record {
@@ -188,14 +189,14 @@ module _ (kind : ℕ) (q : JoinQuery) (all : List Pair) (ok : IsQuery q) (comple
       kept : (r : Pair) → Contains first r → Contains (first ++ (p ∷ [])) r
       kept r d = Contains-append_left first (p ∷ []) r d
 
-      same_split : (r : Pair) (x : ℕ) → p ≡ r → SplitWord kind q all r x → v ≡ x
-      same_split r x z sp = split_same p v x split (subst (λ y. SplitWord kind q all y x) (sym z) sp)
+      same_split : (r : Pair) (x : ℕ) → p ≡ r → LeastOfPair kind q all r x → v ≡ x
+      same_split r x z sp = split_same p v x split (subst (λ y. LeastOfPair kind q all y x) (sym z) sp)
 
       alone : slice_index words u ≡ EMPTY → NoneOver first u → LowestOver kind q all (first ++ (p ∷ [])) u w
       alone empty none =
           let is : v ≡ w = omega arith in
           record {
-            some = (p, Contains-push first p, refl, subst (SplitWord kind q all p) is split);
+            some = (p, Contains-push first p, refl, subst (LeastOfPair kind q all p) is split);
             least = λ r x d o sp. elim (Contains-push_cases first p r d) [
               | inl old ↦ absurd (none r old o)
               | inr z ↦ omega (arith, same_split r x z sp)
@@ -206,8 +207,8 @@ module _ (kind : ℕ) (q : JoinQuery) (all : List Pair) (ok : IsQuery q) (comple
       lower lowest =
           record {
             some = elim (cases_lt v (slice_index words u)) [
-              | inl l ↦ let is : v ≡ w = omega arith in (p, Contains-push first p, refl, subst (SplitWord kind q all p) is split)
-              | inr g ↦ let is : slice_index words u ≡ w = omega arith in (lowest.some.0, kept lowest.some.0 lowest.some.1, lowest.some.2, subst (SplitWord kind q all lowest.some.0) is lowest.some.3)
+              | inl l ↦ let is : v ≡ w = omega arith in (p, Contains-push first p, refl, subst (LeastOfPair kind q all p) is split)
+              | inr g ↦ let is : slice_index words u ≡ w = omega arith in (lowest.some.0, kept lowest.some.0 lowest.some.1, lowest.some.2, subst (LeastOfPair kind q all lowest.some.0) is lowest.some.3)
             ];
             least = λ r x d o sp. elim (Contains-push_cases first p r d) [
               | inl old ↦ omega (arith, lowest.least r x old o sp)
@@ -243,7 +244,7 @@ module _ (kind : ℕ) (q : JoinQuery) (all : List Pair) (ok : IsQuery q) (comple
 
   lowered_best : (words : List ℕ) (s : ℕ) → Lowered kind q all all words → Connected (graph_of q) s → Best kind q s (slice_index words s)
   lowered_best words s low c =
-      (least_best kind q all s (slice_index words s) ok complete.members).0 (settled all [] words s (sym (append-nil all)) low c (λ r d over. d))
+      (least_best kind q all ok complete.members s (slice_index words s)).0 (settled all [] words s (sym (append-nil all)) low c (λ r d over. d))
 
   has_rows : (table : RowTable) (s : ℕ) → IsCardTable q table → s ≢ 0 → Within s (full (relations q)) → HasRows table s
   has_rows table s is some within =
@@ -261,7 +262,7 @@ module _ (kind : ℕ) (q : JoinQuery) (all : List Pair) (ok : IsQuery q) (comple
         sets = (within_span p.a (relations q) h.first.within ok.few, within_span p.b (relations q) h.second.within ok.few);
         room = rw w.low.sized (full_below p.a (relations q) h.first.within, full_below p.b (relations q) h.second.within, (over_two p c).1);
         rows = (has_rows table p.a is h.first.some h.first.within, has_rows table p.b is h.second.some h.second.within, has_rows table (union p.a p.b) is whole.some whole.within);
-        made = (λ e. made_not_empty kind q all p.a ok builds.within (subst (Made kind q all p.a) e ends.0.made), λ e. made_not_empty kind q all p.b ok builds.within (subst (Made kind q all p.b) e ends.1.made));
+        made = (λ e. empty_never_made kind q all p.a ok (subst (Made kind q all p.a) e ends.0.made), λ e. empty_never_made kind q all p.b ok (subst (Made kind q all p.b) e ends.1.made));
       }
     where
       c : Contains all p
@@ -305,7 +306,7 @@ module _ (kind : ℕ) (q : JoinQuery) (all : List Pair) (ok : IsQuery q) (comple
       ends : Least kind q all p.a (slice_index words p.a) × Least kind q all p.b (slice_index words p.b)
       ends = sides_settled w.first left words p w.split w.low
 
-      split_word : SplitWord kind q all p v
+      split_word : LeastOfPair kind q all p v
       split_word = record {
         first = slice_index words p.a;
         second = slice_index words p.b;
