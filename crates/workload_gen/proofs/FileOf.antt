@@ -72,16 +72,13 @@ file_item sample = record { tables = numbered table_item 0 sample.tables; querie
 -- ---- what stands at a site
 
 required_ok : {X : Type 0} (f : Data → Option X) (p : Place) (d : Data) (x : X) → f d ≡ Some x → required f p (Some d) ≡ Ok x
-required_ok f p d x e = rw (e, required) refl
+required_ok f p d x e = rw e refl
 
 name_ok : (p : Place) (s : List ℕ) → is_name s ≡ true → required as_name p (Some (string s)) ≡ Ok s
 name_ok p s e = required_ok as_name p (string s) s (rw e refl)
 
 whole_ok : (p : Place) (limit n : ℕ) → n ≤ limit → required (as_whole limit) p (Some (number (unsigned n))) ≡ Ok n
 whole_ok p limit n h = required_ok (as_whole limit) p (number (unsigned n)) n (rw (le-leb n limit h) refl)
-
-optional_name_ok : (p : Place) (s : List ℕ) → is_name s ≡ true → optional as_name p (Some (string s)) ≡ Ok (Some s)
-optional_name_ok p s e = let found : as_name (string s) ≡ Some s = rw e refl in rw (found, optional) refl
 
 -- ---- the walk
 
