@@ -3,11 +3,11 @@ use Rattle.std.proofs.Common.{◌≡◌, ℕ, ◌<◌, ◌≤◌, arith, refl, a
 use Rattle.dpe_base.specs.declared.TheConstants.{EMPTY}
 use Rattle.dpe_base.specs.Queries.{relations}
 use Rattle.dpe_base.specs.Sets.{single, size}
-use Rattle.dpe_base.proofs.SizeLaws.{size-union, size-single, size_none}
+use Rattle.dpe_base.proofs.SizeLaws.{size-union, size-single}
 use Rattle.join_graph.specs.Graphs.{graph_of}
 use Rattle.join_tree.specs.Trees.{JoinTree, leaf, join, set_of, Trees, HasWord, Made, Least}
 use Rattle.join_tree.proofs.BestLaws.{legal_word}
-use Rattle.join_tree.proofs.TreeLaws.{made_legal, legal_connected}
+use Rattle.join_tree.proofs.TreeLaws.{made_legal, legal_connected, connected_size_some}
 use Rattle.memo_table.specs.declared.view.TreeSpace.{TreeSpace}
 use Rattle.memo_table.specs.Making.{leaf_word}
 use Rattle.memo_table.specs.Rule.{IsTreeSpace}
@@ -30,8 +30,7 @@ module _ (kind : ℕ) (space : TreeSpace) (is : IsTreeSpace space) where
       }
     where
       some : (t : JoinTree) → Trees kind space.query space.pairs t → 1 ≤ size (set_of t)
-      some t m = let c = legal_connected kind (graph_of space.query) t (made_legal kind space.query space.pairs is.pairs t m) in
-          let F : size (set_of t) ≡ 0 → ⊥ = λ e. c.some (size_none (set_of t) e) in omega arith
+      some t m = connected_size_some (graph_of space.query) (set_of t) (legal_connected kind (graph_of space.query) t (made_legal kind space.query space.pairs is.pairs t m))
 
       alone : (t : JoinTree) (v : ℕ) → Trees kind space.query space.pairs t → set_of t ≡ single r → HasWord kind space.query t v → leaf_word r ≤ v
       alone (leaf k) v m e h = omega (arith, e, h.is)
