@@ -16,16 +16,14 @@ use Rattle.join_graph.proofs.GraphLaws.{connected_union, grown_pair}
 use Rattle.card_scaled.specs.Cards.{RowTable, rows, IsCardTable}
 use Rattle.cost_model.specs.Costs.{operators, join_cost}
 use Rattle.cost_model.specs.Words.{best_word, word_cost}
-use Rattle.cost_model.proofs.WordLaws.{best_below_is}
 use Rattle.cost_model.proofs.CostLaws.{operators_few}
-use Rattle.cost_model.proofs.WordLaws.{word_le}
-use Rattle.join_tree.specs.Trees.{JoinTree, leaf, join, set_of, Trees, HasWord, Made, Least, Best, LeastOfPair, Builds}
-use Rattle.join_tree.proofs.TreeLaws.{legal_connected, made_legal}
-use Rattle.join_tree.proofs.BestLaws.{least_best, empty_never_made}
+use Rattle.cost_model.proofs.WordLaws.{best_below_is, word_le}
+use Rattle.join_tree.specs.Trees.{Made, Least, Best, LeastOfPair, Builds}
+use Rattle.join_tree.proofs.BestLaws.{least_best, empty_never_made, least_single}
 use Rattle.join_tree.proofs.Substructure.{optimal_substructure}
 use Rattle.join_tree.proofs.TreeCosts.{rows_bounds}
 use Rattle.pair_stream.specs.Orders.{Ordered, Complete}
-use Rattle.dpe_top.specs.Planning.{IsOpening, NoneOver, LowestOver, Lowered, HasRows, MayLower, pair_word, lowered}
+use Rattle.dpe_top.specs.Planning.{IsOpening, NoneOver, LowestOver, Lowered, HasRows, MayLower, word_of_pair, lowered}
 use Rattle.plan_report.specs.Words.{HasBestWords}
 use Rattle.dpe_top.proofs.PairCount.{complete_few}
 
@@ -105,27 +103,6 @@ module _ (kind : ℕ) (q : JoinQuery) (all : List Pair) (ok : IsQuery q) (comple
       ∙ ap (λ y. best_word kind p.a p.b b.first y (rows q p.a) (rows q p.b) (rows q (union p.a p.b))) (least_same p.b a.second b.second a.least_second b.least_second)
       ∙ sym b.is
 
-  -- the word of a relation alone
-  leaf_least : (r : ℕ) → r < relations q → Least kind q all (single r) (3 * SPAN + single r)
-  leaf_least r l =
-      record {
-        made = record { tree = leaf r; made = l; over = refl; word = record { below = omega arith; is = refl } };
-        least = λ v m. alone m.tree v m.made m.over m.word;
-      }
-    where
-      alone : (t : JoinTree) (v : ℕ) → Trees kind q all t → set_of t ≡ single r → HasWord kind q t v → 3 * SPAN + single r ≤ v
-      alone (leaf k) v m e h = omega (arith, e, h.is)
-      alone (join op a b) v m e h =
-          let legal = made_legal kind q all builds.within (join op a b) m in
-          absurd (omega (
-            arith,
-            size-union (set_of a) (set_of b) legal.3,
-            some_size (set_of a) (legal_connected kind (graph_of q) a legal.1).some,
-            some_size (set_of b) (legal_connected kind (graph_of q) b legal.2).some,
-            ap size e,
-            size-single r,
-          ))
-
   -- where all pairs over a connected set were first, its word is the least
   settled : (first left : List Pair) (words : List ℕ) (s : ℕ) → all ≡ first ++ left → Lowered kind q all first words → Connected (graph_of q) s
       → ((r : Pair) → Contains all r → union r.a r.b ≡ s → Contains first r) → Least kind q all s (slice_index words s)
@@ -135,7 +112,7 @@ module _ (kind : ℕ) (q : JoinQuery) (all : List Pair) (ok : IsQuery q) (comple
             let k : (r : ℕ) × (s ≡ single r) = size_one s (omega (arith, some_size s c.some)) in
             let known : k.0 < relations q = full_limit (relations q) k.0 (c.within k.0 (subst (λ x. Has x k.0) (sym k.1) (single_has k.0))) in
             subst (λ x. Least kind q all x (slice_index words x)) (sym k.1)
-            (subst (Least kind q all (single k.0)) (sym (low.leaves k.0 known)) (leaf_least k.0 known))
+            (subst (Least kind q all (single k.0)) (sym (low.leaves k.0 known)) (least_single kind q all builds.within k.0 known))
         | inr many ↦ elim (low.sets s (full_below s (relations q) c.within) (omega arith)) [
           | inl none ↦
               let p : (p : Pair) × Pairs (graph_of q) p × (union p.a p.b ≡ s) = grown_pair (graph_of q) s ok.few c many in
@@ -298,7 +275,7 @@ module _ (kind : ℕ) (q : JoinQuery) (all : List Pair) (ok : IsQuery q) (comple
       ready = may_lower left words table count p w is
 
       v : ℕ
-      v = pair_word kind words table p
+      v = word_of_pair kind words table p
 
       at_row : (s : ℕ) → HasRows table s → slice_index table.rows s ≡ rows q s
       at_row s has = is.each s has.some (rw (sym is.sized) has.within)
@@ -340,7 +317,7 @@ module _ (kind : ℕ) (q : JoinQuery) (all : List Pair) (ok : IsQuery q) (comple
       → Walked kind q all left (take n (new ++ drop (length new) words)) (count + 1)
   walked_more_at rest left words slice new table count n p took same sized w is e =
       let set : new ≡ lowered kind words table p = subst (λ xs. new ≡ lowered kind xs table p) same e in
-      let len : length new ≡ length words = ap length set ∙ length-set words (union p.a p.b) (min (slice_index words (union p.a p.b)) (pair_word kind words table p)) in
+      let len : length new ≡ length words = ap length set ∙ length-set words (union p.a p.b) (min (slice_index words (union p.a p.b)) (word_of_pair kind words table p)) in
       subst (λ xs. Walked kind q all left xs (count + 1)) (sym (written_back n new words sized len))
       (walked_more left words new table count p (subst (λ ps. Walked kind q all ps words count) took w) is set)
 

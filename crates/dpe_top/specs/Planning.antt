@@ -39,15 +39,15 @@ pub record MayLower (words : List ℕ) (table : RowTable) (p : Pair) : Type 0 wh
   pub made : (slice_index words p.a ≢ EMPTY) × (slice_index words p.b ≢ EMPTY)
 
 -- the least word of the pair on these words
-abbrev pub pair_word : ℕ → List ℕ → RowTable → Pair → ℕ
-pair_word kind words table p =
+abbrev pub word_of_pair : ℕ → List ℕ → RowTable → Pair → ℕ
+word_of_pair kind words table p =
     best_word kind p.a p.b (slice_index words p.a) (slice_index words p.b)
     (slice_index table.rows p.a) (slice_index table.rows p.b) (slice_index table.rows (union p.a p.b))
 
 -- the words after the pair
 abbrev pub lowered : ℕ → List ℕ → RowTable → Pair → List ℕ
 lowered kind words table p =
-    slice_set words (union p.a p.b) (min (slice_index words (union p.a p.b)) (pair_word kind words table p))
+    slice_set words (union p.a p.b) (min (slice_index words (union p.a p.b)) (word_of_pair kind words table p))
 
 -- the words after the first pairs of the list
 pub record Lowered (kind : ℕ) (q : JoinQuery) (all first : List Pair) (words : List ℕ) : Type 0 where
