@@ -1,6 +1,5 @@
 pub mod GroupLaws
-mod Placing
 mod Counts
-mod Beginning
+mod Linking
 pub mod Weights
 pub mod RunLaws

@@ -3,8 +3,8 @@
 #![tactic(auto)]
 
 mod buffer;
-mod grouping;
 pub mod laws;
+mod links;
 #[cfg(test)]
 mod tests;
 
