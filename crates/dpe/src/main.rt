@@ -29,6 +29,13 @@ fn main(rt: HostRuntime) -> ExitCode {
     let Ok(words) = words.collect::<Vec<String>>(alloc) else {
         return ExitCode::from(Status::NoMemory as u8);
     };
-    let status = dpe(&rt, alloc, words.as_slice(), &mut source, &mut sink, &OpenGate);
+    let status = dpe(
+        &rt,
+        alloc,
+        words.as_slice(),
+        &mut source,
+        &mut sink,
+        &OpenGate,
+    );
     ExitCode::from(status as u8)
 }

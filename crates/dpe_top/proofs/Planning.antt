@@ -16,15 +16,14 @@ use Rattle.join_graph.proofs.GraphLaws.{connected_union, grown_pair}
 use Rattle.card_scaled.specs.Cards.{RowTable, rows, IsCardTable}
 use Rattle.cost_model.specs.Costs.{operators, join_cost}
 use Rattle.cost_model.specs.Words.{best_word, word_cost}
-use Rattle.cost_model.proofs.WordLaws.{best_below_is}
-use Rattle.cost_model.proofs.SplitLaws.{word_le}
-use Rattle.join_tree.specs.Trees.{JoinTree, leaf, join, set_of, Trees, HasWord, Made, Least, Best, SplitWord, Builds}
-use Rattle.join_tree.proofs.TreeLaws.{legal_connected, made_legal}
-use Rattle.join_tree.proofs.BestLaws.{least_best, made_not_empty}
-use Rattle.join_tree.proofs.Substructure.{optimal_substructure, operators_few}
+use Rattle.cost_model.proofs.CostLaws.{operators_few}
+use Rattle.cost_model.proofs.WordLaws.{best_below_is, word_le}
+use Rattle.join_tree.specs.Trees.{Made, Least, Best, LeastOfPair, Builds}
+use Rattle.join_tree.proofs.BestLaws.{least_best, empty_never_made, least_single}
+use Rattle.join_tree.proofs.Substructure.{optimal_substructure}
 use Rattle.join_tree.proofs.TreeCosts.{rows_bounds}
 use Rattle.pair_stream.specs.Orders.{Ordered, Complete}
-use Rattle.dpe_top.specs.Planning.{IsOpening, NoneOver, LowestOver, Lowered, HasRows, MayLower, pair_word, lowered}
+use Rattle.dpe_top.specs.Planning.{IsOpening, NoneOver, LowestOver, Lowered, HasRows, MayLower, word_of_pair, lowered}
 use Rattle.plan_report.specs.Words.{HasBestWords}
 use Rattle.dpe_top.proofs.PairCount.{complete_few}
 
@@ -97,33 +96,12 @@ module _ (kind : ℕ) (q : JoinQuery) (all : List Pair) (ok : IsQuery q) (comple
   least_same : (s v w : ℕ) → Least kind q all s v → Least kind q all s w → v ≡ w
   least_same s v w a b = omega (arith, a.least w b.made, b.least v a.made)
 
-  split_same : (p : Pair) (v w : ℕ) → SplitWord kind q all p v → SplitWord kind q all p w → v ≡ w
+  split_same : (p : Pair) (v w : ℕ) → LeastOfPair kind q all p v → LeastOfPair kind q all p w → v ≡ w
   split_same p v w a b =
       a.is
       ∙ ap (λ x. best_word kind p.a p.b x a.second (rows q p.a) (rows q p.b) (rows q (union p.a p.b))) (least_same p.a a.first b.first a.least_first b.least_first)
       ∙ ap (λ y. best_word kind p.a p.b b.first y (rows q p.a) (rows q p.b) (rows q (union p.a p.b))) (least_same p.b a.second b.second a.least_second b.least_second)
       ∙ sym b.is
-
-  -- the word of a relation alone
-  leaf_least : (r : ℕ) → r < relations q → Least kind q all (single r) (3 * SPAN + single r)
-  leaf_least r l =
-      record {
-        made = record { tree = leaf r; made = l; over = refl; word = record { below = omega arith; is = refl } };
-        least = λ v m. alone m.tree v m.made m.over m.word;
-      }
-    where
-      alone : (t : JoinTree) (v : ℕ) → Trees kind q all t → set_of t ≡ single r → HasWord kind q t v → 3 * SPAN + single r ≤ v
-      alone (leaf k) v m e h = omega (arith, e, h.is)
-      alone (join op a b) v m e h =
-          let legal = made_legal kind q all builds.within (join op a b) m in
-          absurd (omega (
-            arith,
-            size-union (set_of a) (set_of b) legal.3,
-            some_size (set_of a) (legal_connected kind (graph_of q) a legal.1).some,
-            some_size (set_of b) (legal_connected kind (graph_of q) b legal.2).some,
-            ap size e,
-            size-single r,
-          ))
 
   -- where all pairs over a connected set were first, its word is the least
   settled : (first left : List Pair) (words : List ℕ) (s : ℕ) → all ≡ first ++ left → Lowered kind q all first words → Connected (graph_of q) s
@@ -134,7 +112,7 @@ module _ (kind : ℕ) (q : JoinQuery) (all : List Pair) (ok : IsQuery q) (comple
             let k : (r : ℕ) × (s ≡ single r) = size_one s (omega (arith, some_size s c.some)) in
             let known : k.0 < relations q = full_limit (relations q) k.0 (c.within k.0 (subst (λ x. Has x k.0) (sym k.1) (single_has k.0))) in
             subst (λ x. Least kind q all x (slice_index words x)) (sym k.1)
-            (subst (Least kind q all (single k.0)) (sym (low.leaves k.0 known)) (leaf_least k.0 known))
+            (subst (Least kind q all (single k.0)) (sym (low.leaves k.0 known)) (least_single kind q all builds.within k.0 known))
         | inr many ↦ elim (low.sets s (full_below s (relations q) c.within) (omega arith)) [
           | inl none ↦
               let p : (p : Pair) × Pairs (graph_of q) p × (union p.a p.b ≡ s) = grown_pair (graph_of q) s ok.few c many in
@@ -161,7 +139,7 @@ module _ (kind : ℕ) (q : JoinQuery) (all : List Pair) (ok : IsQuery q) (comple
 
   -- the next pair lowers the word of its union
   lowered_more : (first left : List Pair) (words : List ℕ) (p : Pair) (v : ℕ) → all ≡ first ++ (p ∷ left) → Lowered kind q all first words
-      → v ≤ EMPTY → SplitWord kind q all p v
+      → v ≤ EMPTY → LeastOfPair kind q all p v
       → Lowered kind q all (first ++ (p ∷ [])) (slice_set words (union p.a p.b) (min (slice_index words (union p.a p.b)) v))
   lowered_more first left words p v e low fits split =
       record {
@@ -188,14 +166,14 @@ module _ (kind : ℕ) (q : JoinQuery) (all : List Pair) (ok : IsQuery q) (comple
       kept : (r : Pair) → Contains first r → Contains (first ++ (p ∷ [])) r
       kept r d = Contains-append_left first (p ∷ []) r d
 
-      same_split : (r : Pair) (x : ℕ) → p ≡ r → SplitWord kind q all r x → v ≡ x
-      same_split r x z sp = split_same p v x split (subst (λ y. SplitWord kind q all y x) (sym z) sp)
+      same_split : (r : Pair) (x : ℕ) → p ≡ r → LeastOfPair kind q all r x → v ≡ x
+      same_split r x z sp = split_same p v x split (subst (λ y. LeastOfPair kind q all y x) (sym z) sp)
 
       alone : slice_index words u ≡ EMPTY → NoneOver first u → LowestOver kind q all (first ++ (p ∷ [])) u w
       alone empty none =
           let is : v ≡ w = omega arith in
           record {
-            some = (p, Contains-push first p, refl, subst (SplitWord kind q all p) is split);
+            some = (p, Contains-push first p, refl, subst (LeastOfPair kind q all p) is split);
             least = λ r x d o sp. elim (Contains-push_cases first p r d) [
               | inl old ↦ absurd (none r old o)
               | inr z ↦ omega (arith, same_split r x z sp)
@@ -206,8 +184,8 @@ module _ (kind : ℕ) (q : JoinQuery) (all : List Pair) (ok : IsQuery q) (comple
       lower lowest =
           record {
             some = elim (cases_lt v (slice_index words u)) [
-              | inl l ↦ let is : v ≡ w = omega arith in (p, Contains-push first p, refl, subst (SplitWord kind q all p) is split)
-              | inr g ↦ let is : slice_index words u ≡ w = omega arith in (lowest.some.0, kept lowest.some.0 lowest.some.1, lowest.some.2, subst (SplitWord kind q all lowest.some.0) is lowest.some.3)
+              | inl l ↦ let is : v ≡ w = omega arith in (p, Contains-push first p, refl, subst (LeastOfPair kind q all p) is split)
+              | inr g ↦ let is : slice_index words u ≡ w = omega arith in (lowest.some.0, kept lowest.some.0 lowest.some.1, lowest.some.2, subst (LeastOfPair kind q all lowest.some.0) is lowest.some.3)
             ];
             least = λ r x d o sp. elim (Contains-push_cases first p r d) [
               | inl old ↦ omega (arith, lowest.least r x old o sp)
@@ -243,7 +221,7 @@ module _ (kind : ℕ) (q : JoinQuery) (all : List Pair) (ok : IsQuery q) (comple
 
   lowered_best : (words : List ℕ) (s : ℕ) → Lowered kind q all all words → Connected (graph_of q) s → Best kind q s (slice_index words s)
   lowered_best words s low c =
-      (least_best kind q all s (slice_index words s) ok complete.members).0 (settled all [] words s (sym (append-nil all)) low c (λ r d over. d))
+      (least_best kind q all ok complete.members s (slice_index words s)).0 (settled all [] words s (sym (append-nil all)) low c (λ r d over. d))
 
   has_rows : (table : RowTable) (s : ℕ) → IsCardTable q table → s ≢ 0 → Within s (full (relations q)) → HasRows table s
   has_rows table s is some within =
@@ -261,7 +239,7 @@ module _ (kind : ℕ) (q : JoinQuery) (all : List Pair) (ok : IsQuery q) (comple
         sets = (within_span p.a (relations q) h.first.within ok.few, within_span p.b (relations q) h.second.within ok.few);
         room = rw w.low.sized (full_below p.a (relations q) h.first.within, full_below p.b (relations q) h.second.within, (over_two p c).1);
         rows = (has_rows table p.a is h.first.some h.first.within, has_rows table p.b is h.second.some h.second.within, has_rows table (union p.a p.b) is whole.some whole.within);
-        made = (λ e. made_not_empty kind q all p.a ok builds.within (subst (Made kind q all p.a) e ends.0.made), λ e. made_not_empty kind q all p.b ok builds.within (subst (Made kind q all p.b) e ends.1.made));
+        made = (λ e. empty_never_made kind q all p.a ok (subst (Made kind q all p.a) e ends.0.made), λ e. empty_never_made kind q all p.b ok (subst (Made kind q all p.b) e ends.1.made));
       }
     where
       c : Contains all p
@@ -297,7 +275,7 @@ module _ (kind : ℕ) (q : JoinQuery) (all : List Pair) (ok : IsQuery q) (comple
       ready = may_lower left words table count p w is
 
       v : ℕ
-      v = pair_word kind words table p
+      v = word_of_pair kind words table p
 
       at_row : (s : ℕ) → HasRows table s → slice_index table.rows s ≡ rows q s
       at_row s has = is.each s has.some (rw (sym is.sized) has.within)
@@ -305,7 +283,7 @@ module _ (kind : ℕ) (q : JoinQuery) (all : List Pair) (ok : IsQuery q) (comple
       ends : Least kind q all p.a (slice_index words p.a) × Least kind q all p.b (slice_index words p.b)
       ends = sides_settled w.first left words p w.split w.low
 
-      split_word : SplitWord kind q all p v
+      split_word : LeastOfPair kind q all p v
       split_word = record {
         first = slice_index words p.a;
         second = slice_index words p.b;
@@ -339,7 +317,7 @@ module _ (kind : ℕ) (q : JoinQuery) (all : List Pair) (ok : IsQuery q) (comple
       → Walked kind q all left (take n (new ++ drop (length new) words)) (count + 1)
   walked_more_at rest left words slice new table count n p took same sized w is e =
       let set : new ≡ lowered kind words table p = subst (λ xs. new ≡ lowered kind xs table p) same e in
-      let len : length new ≡ length words = ap length set ∙ length-set words (union p.a p.b) (min (slice_index words (union p.a p.b)) (pair_word kind words table p)) in
+      let len : length new ≡ length words = ap length set ∙ length-set words (union p.a p.b) (min (slice_index words (union p.a p.b)) (word_of_pair kind words table p)) in
       subst (λ xs. Walked kind q all left xs (count + 1)) (sym (written_back n new words sized len))
       (walked_more left words new table count p (subst (λ ps. Walked kind q all ps words count) took w) is set)
 

@@ -1,5 +1,5 @@
 -- What the report asks of a plan.
-use Rattle.std.proofs.Common.{◌<◌, ℕ, subst}
+use Rattle.std.proofs.Common.{◌<◌, ℕ}
 use Rattle.dpe_base.specs.declared.TheConstants.{COST_LIMIT}
 use Rattle.dpe_base.specs.Queries.{JoinQuery, IsQuery}
 use Rattle.join_tree.specs.Trees.{JoinTree, leaf, join, set_of, cost, root_word, Best, EverySubtree, Plan}

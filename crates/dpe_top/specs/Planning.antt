@@ -7,7 +7,7 @@ use Rattle.dpe_base.specs.Queries.{JoinQuery, relations}
 use Rattle.dpe_base.specs.Sets.{Within, union, single, size, full}
 use Rattle.card_scaled.specs.Cards.{RowTable}
 use Rattle.cost_model.specs.Words.{best_word}
-use Rattle.join_tree.specs.Trees.{SplitWord}
+use Rattle.join_tree.specs.Trees.{LeastOfPair}
 
 -- the words of the relations alone, and no other
 pub record IsOpening (n : ℕ) (words : List ℕ) : Type 0 where
@@ -21,8 +21,8 @@ NoneOver pairs s = (p : Pair) → Contains pairs p → union p.a p.b ≡ s → �
 
 -- w is the least word of those pairs among the first ones that have the union s
 pub record LowestOver (kind : ℕ) (q : JoinQuery) (all first : List Pair) (s w : ℕ) : Type 0 where
-  pub some : (p : Pair) × Contains first p × (union p.a p.b ≡ s) × SplitWord kind q all p w
-  pub least : (p : Pair) (v : ℕ) → Contains first p → union p.a p.b ≡ s → SplitWord kind q all p v → w ≤ v
+  pub some : (p : Pair) × Contains first p × (union p.a p.b ≡ s) × LeastOfPair kind q all p w
+  pub least : (p : Pair) (v : ℕ) → Contains first p → union p.a p.b ≡ s → LeastOfPair kind q all p v → w ≤ v
 
 -- the table has the rows of the set
 pub record HasRows (table : RowTable) (s : ℕ) : Type 0 where
@@ -39,15 +39,15 @@ pub record MayLower (words : List ℕ) (table : RowTable) (p : Pair) : Type 0 wh
   pub made : (slice_index words p.a ≢ EMPTY) × (slice_index words p.b ≢ EMPTY)
 
 -- the least word of the pair on these words
-abbrev pub pair_word : ℕ → List ℕ → RowTable → Pair → ℕ
-pair_word kind words table p =
+abbrev pub word_of_pair : ℕ → List ℕ → RowTable → Pair → ℕ
+word_of_pair kind words table p =
     best_word kind p.a p.b (slice_index words p.a) (slice_index words p.b)
     (slice_index table.rows p.a) (slice_index table.rows p.b) (slice_index table.rows (union p.a p.b))
 
 -- the words after the pair
 abbrev pub lowered : ℕ → List ℕ → RowTable → Pair → List ℕ
 lowered kind words table p =
-    slice_set words (union p.a p.b) (min (slice_index words (union p.a p.b)) (pair_word kind words table p))
+    slice_set words (union p.a p.b) (min (slice_index words (union p.a p.b)) (word_of_pair kind words table p))
 
 -- the words after the first pairs of the list
 pub record Lowered (kind : ℕ) (q : JoinQuery) (all first : List Pair) (words : List ℕ) : Type 0 where

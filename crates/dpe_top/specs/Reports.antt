@@ -1,10 +1,10 @@
 -- The report of a workload: one entry after the other, in the workload's order.
-use Rattle.std.specs.Prelude.{◌≡◌, ℕ, List, [], ◌∷◌, length, Bool, true, false, None, if◌then◌else◌}
-use Rattle.std.specs.List.{All, list_any}
+use Rattle.std.specs.Prelude.{◌≡◌, ℕ, List, [], ◌∷◌, length, Bool, true, false, None}
+use Rattle.std.specs.List.{list_any}
 use Rattle.dpe_base.specs.declared.pair.Pair.{Pair}
 use Rattle.dpe_base.specs.Queries.{relations}
 use Rattle.dpe_base.specs.Sets.{full}
-use Rattle.join_graph.specs.Graphs.{Connected, graph_of}
+use Rattle.join_graph.specs.Graphs.{graph_of}
 use Rattle.join_tree.specs.Trees.{Plan}
 use Rattle.pair_stream.specs.Orders.{Complete}
 use Rattle.query_json.specs.declared.entry.Entry.{Entry}

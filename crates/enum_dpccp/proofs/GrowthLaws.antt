@@ -293,50 +293,10 @@ begun_fits g cs s n x e last ok ec known some out en ee el =
     subst (λ xs. CallsFit g 0 xs × CallFits g (length xs) (call s n e last)) (sym ec)
     (tt, fits_fresh g 0 s n x e last ok known out en ee el (first_room g.n s e known (λ r h. subst (λ (m : ℕ). Has m r) (sym ee) (union_left x n r (out r h))) some))
 
--- ---- from one call to the next
-
--- the call at hand has given its sets, and stands around those to come
-pub outer_left : (g : JoinGraph) (old now : List Call) (c outer : Call) → c.last ≡ c.neighbours → outer ≡ call c.base c.neighbours c.excluded outer.last → outer.last ≡ 0 → now ≡ old ++ outer ∷ [] → giving_left g c ++ calling_left g old ≡ calling_left g now
-outer_left g old now c outer given eo el en =
-    ap (λ ys. ys ++ calling_left g old) (giving_done g c given)
-    ∙ ap (λ ys. ys ++ calling_left g old) (sym (ap (λ (x : Call). calls_after g x outer.last) eo ∙ ap (λ (k : ℕ). calls_after g c k) el))
-    ∙ sym (calling_push g old outer)
-    ∙ ap (calling_left g) (sym en)
-
--- a call within a call is entered
-pub enter_left : (g : JoinGraph) (old cs now : List Call) (c : Call) (child : Child) (s e last : ℕ) → IsGraph g → old ≡ cs ++ c ∷ [] → IsChild g c child → now ≡ cs ++ call c.base c.neighbours c.excluded child.last ∷ [] → s ≡ union c.base child.last → e ≡ union c.excluded child.neighbours → last ≡ 0
-    → giving_left g (call s child.neighbours e last) ++ calling_left g now ≡ calling_left g old
-enter_left g old cs now c child s e last ok eo x en es ee el =
-    ap (λ ys. ys ++ calling_left g now) (giving_fresh g s child.neighbours c.excluded e last ok (x.neighbours ∙ ap (λ (m : ℕ). neighbours_outside g m c.excluded) (sym es)) ee el ∙ ap (λ (m : ℕ). all_extensions g m c.excluded) es)
-    ∙ ap (λ ys. child_sets g c child.last ++ ys) (ap (calling_left g) en ∙ calling_push g cs (call c.base c.neighbours c.excluded child.last))
-    ∙ sym (append_assoc (child_sets g c child.last) (calls_after g c child.last) (calling_left g cs))
-    ∙ ap (λ ys. ys ++ calling_left g cs) (sym x.left)
-    ∙ sym (ap (calling_left g) eo ∙ calling_push g cs c)
-
-pub enter_fits : (g : JoinGraph) (old cs now : List Call) (c : Call) (child : Child) (s e last : ℕ) → IsGraph g → CallsFit g 0 old → old ≡ cs ++ c ∷ [] → IsChild g c child → now ≡ cs ++ call c.base c.neighbours c.excluded child.last ∷ [] → s ≡ union c.base child.last → e ≡ union c.excluded child.neighbours → last ≡ 0
-    → CallsFit g 0 now × CallFits g (length now) (call s child.neighbours e last)
-enter_fits g old cs now c child s e last ok fits eo x en es ee el =
-    let r : CallsFit g 0 cs × CallFits g (length cs) c = popped g old cs c fits eo in
-    let outer : Call = call c.base c.neighbours c.excluded child.last in (
-      subst (CallsFit g 0) (sym en) (pushed g cs outer r.0 (fits_at g (length cs) c child.last r.1 x.part)),
-      subst (λ (k : ℕ). CallFits g k (call s child.neighbours e last)) (sym (ap length en ∙ length-append cs (outer ∷ [])))
-          (fits_child g (length cs) c child s e last ok r.1 x es ee el),
-    )
-
--- the innermost call around has nothing left to give
-pub drop_left : (g : JoinGraph) (old cs : List Call) (c : Call) → old ≡ cs ++ c ∷ [] → NoChild g c → calling_left g old ≡ calling_left g cs
-drop_left g old cs c e none = ap (calling_left g) e ∙ calling_push g cs c ∙ ap (λ ys. ys ++ calling_left g cs) none
-
 pub none_left : (g : JoinGraph) (old now : List Call) → old ≡ now ++ [] → (0 < length old → ⊥) → (calling_left g old ≡ []) × (now ≡ [])
 none_left g [] [] e h = (calling_none g [] refl, refl)
 none_left g [] (y ∷ ys) e h = cc
 none_left g (x ∷ xs) now e h = absurd (h (omega arith))
-
-pub outer_fits : (g : JoinGraph) (old now : List Call) (c : Call) (last : ℕ) → CallsFit g 0 old → CallFits g (length old) c → last ≡ 0 → now ≡ old ++ call c.base c.neighbours c.excluded last ∷ [] → CallsFit g 0 now
-outer_fits g old now c last fits h el en =
-    subst (CallsFit g 0) (sym en)
-    (pushed g old (call c.base c.neighbours c.excluded last) fits
-    (fits_at g (length old) c last h (subst (λ (m : ℕ). Within m c.neighbours) (sym el) (within_empty c.neighbours))))
 
 no_calls : (cs : List Call) → length cs ≡ 0 → cs ≡ []
 no_calls [] e = refl
@@ -344,3 +304,75 @@ no_calls (c ∷ cs) e = absurd (omega (arith, e))
 
 pub spare_left : (g : JoinGraph) (c : Call) (cs : List Call) → c.last ≡ c.neighbours → c.neighbours ≡ 0 → length cs ≡ 0 → giving_left g c ++ calling_left g cs ≡ []
 spare_left g c cs e z l = ap (λ ys. ys ++ calling_left g cs) (giving_none g c e z) ∙ calling_none g cs (no_calls cs l)
+
+-- ---- from one call to the next
+
+-- the call at hand has given its sets, and its calls come
+pub calls_begin : (g : JoinGraph) (c : Call) (last : ℕ) (cs : List Call) → c.last ≡ c.neighbours → last ≡ 0 → giving_left g c ++ calling_left g cs ≡ calls_after g (call c.base c.neighbours c.excluded last) last ++ calling_left g cs
+calls_begin g c last cs given e =
+    ap (λ ys. ys ++ calling_left g cs) (giving_done g c given ∙ sym (ap (λ (k : ℕ). calls_after g c k) e))
+
+pub fits_begin : (g : JoinGraph) (k : ℕ) (c : Call) (last : ℕ) → CallFits g k c → last ≡ 0 → CallFits g k (call c.base c.neighbours c.excluded last)
+fits_begin g k c last h e = fits_at g k c last h (subst (λ (m : ℕ). Within m c.neighbours) (sym e) (within_empty c.neighbours))
+
+-- a call within a call, as what it gives
+entered : (g : JoinGraph) (c : Call) (child : Child) (s e last : ℕ) → IsGraph g → IsChild g c child → s ≡ union c.base child.last → e ≡ union c.excluded child.neighbours → last ≡ 0 → giving_left g (call s child.neighbours e last) ≡ child_sets g c child.last
+entered g c child s e last ok x es ee el =
+    giving_fresh g s child.neighbours c.excluded e last ok (x.neighbours ∙ ap (λ (m : ℕ). neighbours_outside g m c.excluded) (sym es)) ee el
+    ∙ ap (λ (m : ℕ). all_extensions g m c.excluded) es
+
+-- it is entered, and the call stays around it
+pub enter_left : (g : JoinGraph) (old now : List Call) (c : Call) (child : Child) (s e last : ℕ) → IsGraph g → IsChild g c child → now ≡ old ++ call c.base c.neighbours c.excluded child.last ∷ [] → s ≡ union c.base child.last → e ≡ union c.excluded child.neighbours → last ≡ 0
+    → giving_left g (call s child.neighbours e last) ++ calling_left g now ≡ calls_after g c c.last ++ calling_left g old
+enter_left g old now c child s e last ok x en es ee el =
+    ap (λ ys. ys ++ calling_left g now) (entered g c child s e last ok x es ee el)
+    ∙ ap (λ ys. child_sets g c child.last ++ ys) (ap (calling_left g) en ∙ calling_push g old (call c.base c.neighbours c.excluded child.last))
+    ∙ sym (append_assoc (child_sets g c child.last) (calls_after g c child.last) (calling_left g old))
+    ∙ ap (λ ys. ys ++ calling_left g old) (sym x.left)
+
+-- it is entered, and was the last
+pub enter_last : (g : JoinGraph) (old now : List Call) (c : Call) (child : Child) (s e last : ℕ) → IsGraph g → IsChild g c child → now ≡ old → child.last ≡ c.neighbours → s ≡ union c.base child.last → e ≡ union c.excluded child.neighbours → last ≡ 0
+    → giving_left g (call s child.neighbours e last) ++ calling_left g now ≡ calls_after g c c.last ++ calling_left g old
+enter_last g old now c child s e last ok x en at_end es ee el =
+    ap (λ cs. giving_left g (call s child.neighbours e last) ++ calling_left g cs) en
+    ∙ ap (λ ys. ys ++ calling_left g old)
+    (entered g c child s e last ok x es ee el
+    ∙ sym (append-nil (child_sets g c child.last))
+    ∙ ap (λ ys. child_sets g c child.last ++ ys) (sym (calls_last g c child.last at_end))
+    ∙ sym x.left)
+
+pub enter_fits : (g : JoinGraph) (old now : List Call) (c : Call) (child : Child) (s e last : ℕ) → IsGraph g → CallsFit g 0 old → CallFits g (length old) c → IsChild g c child → now ≡ old ++ call c.base c.neighbours c.excluded child.last ∷ [] → s ≡ union c.base child.last → e ≡ union c.excluded child.neighbours → last ≡ 0
+    → CallsFit g 0 now × CallFits g (length now) (call s child.neighbours e last)
+enter_fits g old now c child s e last ok fits h x en es ee el =
+    let outer : Call = call c.base c.neighbours c.excluded child.last in (
+      subst (CallsFit g 0) (sym en) (pushed g old outer fits (fits_at g (length old) c child.last h x.part)),
+      subst (λ (k : ℕ). CallFits g k (call s child.neighbours e last)) (sym (ap length en ∙ length-append old (outer ∷ [])))
+          (fits_child g (length old) c child s e last ok h x es ee el),
+    )
+
+-- with fewer calls around it there is as much room
+fits_lower : (g : JoinGraph) (k : ℕ) (c : Call) → CallFits g (k + 1) c → CallFits g k c
+fits_lower g k c h =
+    record {
+      base_known = h.base_known;
+      neighbours_known = h.neighbours_known;
+      part = h.part;
+      base_excluded = h.base_excluded;
+      joined_excluded = h.joined_excluded;
+      neighbours_excluded = h.neighbours_excluded;
+      room = omega (arith, h.room);
+    }
+
+pub enter_last_fits : (g : JoinGraph) (old now : List Call) (c : Call) (child : Child) (s e last : ℕ) → IsGraph g → CallsFit g 0 old → CallFits g (length old) c → IsChild g c child → now ≡ old → s ≡ union c.base child.last → e ≡ union c.excluded child.neighbours → last ≡ 0
+    → CallsFit g 0 now × CallFits g (length now) (call s child.neighbours e last)
+enter_last_fits g old now c child s e last ok fits h x en es ee el =
+    subst (λ cs. CallsFit g 0 cs × CallFits g (length cs) (call s child.neighbours e last)) (sym en)
+    (fits, fits_lower g (length old) (call s child.neighbours e last) (fits_child g (length old) c child s e last ok h x es ee el))
+
+-- the call has nothing left to give, and the one around it comes
+pub outer_left : (g : JoinGraph) (old now : List Call) (c outer : Call) → NoChild g c → old ≡ now ++ outer ∷ [] → calls_after g c c.last ++ calling_left g old ≡ calls_after g outer outer.last ++ calling_left g now
+outer_left g old now c outer none e = ap (λ ys. ys ++ calling_left g old) none ∙ ap (calling_left g) e ∙ calling_push g now outer
+
+-- the call has nothing left to give, and there is none around it
+pub all_left : (g : JoinGraph) (old : List Call) (c : Call) → NoChild g c → calling_left g old ≡ [] → calls_after g c c.last ++ calling_left g old ≡ []
+all_left g old c none e = ap (λ ys. ys ++ calling_left g old) none ∙ e

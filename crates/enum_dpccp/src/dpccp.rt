@@ -15,8 +15,10 @@ use std::sync::ledger::Ledger;
 /// Programming Algorithm for the Generation of Optimal Bushy Join Trees without Cross Products", VLDB 2006.
 ///
 /// It goes over the connected sets as first sides, and over the second sides of each, and comes to no set
-/// that is not connected. Their `EnumerateCmp` starts a second side with a neighbour and excludes the
-/// neighbours up to it; this is the recursion here too, as list functions and as a stream without recursion.
+/// that is not connected. A second side that starts with a neighbour excludes the neighbours up to it:
+/// `EnumerateCmp` has also been printed with all neighbours excluded, which loses pairs of a clique of three.
+/// The order is that of the recursion, which is here a list function for the contract, and in the code two
+/// stacks of fixed size.
 #[derive(Drop)]
 pub struct DpCcp {
     graph: Graph,
@@ -38,6 +40,7 @@ impl Model for DpCcp {
 }
 
 impl DpCcp {
+    /// The pairs of the graph in this order. It takes no memory, and makes no probes.
     pub fn over(graph: &Graph) -> DpCcp
         ensures list { result ≡ seq_dpccp graph.now }
         ensures complete { Complete graph.now result }

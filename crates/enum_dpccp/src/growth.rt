@@ -1,8 +1,8 @@
-ghost use Rattle.std.specs.Prelude.{◌≡◌, ◌≢◌, ℕ, ◌+◌, ◌≤◌, [], IfSome, IsNone};
+ghost use Rattle.std.specs.Prelude.{◌≡◌, ◌≢◌, ℕ, ◌++◌, [], length, IfSome, IsNone};
 ghost use Rattle.std.specs.Option.{IfNone};
 ghost use Rattle.dpe_base.specs.Sets.{Within, full, union};
 ghost use Rattle.enum_dpccp.specs.Dpccp.{neighbours_outside, all_extensions};
-ghost use Rattle.enum_dpccp.specs.Growth.{growth_left, GrowthFits, CallFits, TakesSet, IsChild, NoChild, spent_call};
+ghost use Rattle.enum_dpccp.specs.Growth.{calls_after, calling_left, growth_left, GrowthFits, CallFits, CallsFit, TakesSet, IsChild, NoChild, spent_call};
 
 use arrayvec::ArrayVec;
 use dpe_base::{N_MAX, RelSet};
@@ -65,7 +65,9 @@ fn next_child(graph: &Graph, call: &Call) -> Option<Child>
 {
     let _n = graph.n();
     // What no call for all neighbours reaches, no call for some of them does.
-    if neighbours_outside(graph, call.neighbours, call.excluded).bits() == 0 {
+    if call.last.bits() == 0
+        && neighbours_outside(graph, call.neighbours, call.excluded).bits() == 0
+    {
         return None;
     }
     let mut last = call.last;
@@ -126,27 +128,48 @@ impl Growth {
         if self.giving.neighbours.bits() == 0 && self.calling.is_empty() {
             return;
         }
-        let outer = Call {
+        let mut call = Call {
             last: RelSet::empty(),
             ..self.giving
         };
-        self.calling.push(outer);
-        'calls: while let Some(call) = self.calling.pop() {
+        'calls: loop {
             if let Some(child) = next_child(graph, &call) {
-                self.calling.push(Call {
-                    last: child.last,
-                    ..call
-                });
-                self.giving = Call {
-                    base: call.base.union(child.last),
-                    neighbours: child.neighbours,
-                    excluded: call.excluded.union(child.neighbours),
-                    last: RelSet::empty(),
-                };
+                self.enter(graph, &call, &child);
                 return;
             }
+            match self.calling.pop() {
+                None => {
+                    self.giving = Call::spent(graph);
+                    return;
+                }
+                Some(outer) => call = outer,
+            }
         }
-        self.giving = Call::spent(graph);
+    }
+
+    // Enters a call within `call`, which stays around it where more of its calls may come.
+    fn enter(&mut self, graph: &Graph, call: &Call, child: &Child)
+        requires calling { CallsFit graph.now 0 self.old.calling.items }
+        requires call { CallFits graph.now (length self.old.calling.items) call.now }
+        requires child { IsChild graph.now call.now child.now }
+        ensures left { growth_left graph.now self.new ≡ calls_after graph.now call.now call.now.last ++ calling_left graph.now self.old.calling.items }
+        ensures fits { GrowthFits graph.now self.new }
+        ensures some { self.new.giving.last ≢ self.new.giving.neighbours }
+    {
+        let _n = graph.n();
+        if child.last.bits() != call.neighbours.bits() {
+            let outer = Call {
+                last: child.last,
+                ..*call
+            };
+            self.calling.push(outer);
+        }
+        self.giving = Call {
+            base: call.base.union(child.last),
+            neighbours: child.neighbours,
+            excluded: call.excluded.union(child.neighbours),
+            last: RelSet::empty(),
+        };
     }
 
     // Sees to it that the call at hand has something to give, if anything is left.

@@ -5,5 +5,7 @@
 mod dpccp;
 mod growth;
 mod sides;
+#[cfg(test)]
+mod tests;
 
 pub use dpccp::DpCcp;

@@ -7,6 +7,7 @@ use Rattle.pair_stream.specs.Parts.{part, parts_of}
 use Rattle.pair_stream.specs.Connectivity.{adjacent_to_members}
 use Rattle.pair_stream.specs.Subsets.{meets, least}
 
+-- x and y are disjoint, and a predicate joins them
 unfoldable pub is_joinable : JoinGraph → ℕ → ℕ → Bool
 is_joinable g x y = not (meets x y) && meets (adjacent_to_members g x g.n) y
 
@@ -14,7 +15,7 @@ is_joinable g x y = not (meets x y) && meets (adjacent_to_members g x g.n) y
 unfoldable pub pair_by_least : ℕ → ℕ → Pair
 pair_by_least x y = if nat_lt (least x) (least y) then pair_of x y else pair_of y x
 
--- x with each of the sets that is_joinable
+-- the pairs of x with each of the sets that can be joined to it
 unfoldable pub pairs_with : JoinGraph → List ℕ → ℕ → List Pair
 pairs_with g ys x = map (pair_by_least x) (filter (is_joinable g x) ys)
 

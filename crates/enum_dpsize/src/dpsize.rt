@@ -1,7 +1,6 @@
-ghost use Rattle.std.specs.Prelude.{refl, IsTrue, IsNone, ◌≡◌, ℕ, ◌≤◌, ◌<◌, ◌+◌, ◌-◌, List, length, drop, All, Bool, true, ◌^◌};
+ghost use Rattle.std.specs.Prelude.{refl, ◌≡◌, List, drop, All, true};
 ghost use Rattle.dpe_base.specs.declared.pair.Pair.{Pair};
-ghost use Rattle.dpe_base.specs.Sets.{Within, full};
-ghost use Rattle.join_graph.specs.Graphs.{IsGraph, Connected};
+ghost use Rattle.join_graph.specs.Graphs.{Connected};
 ghost use Rattle.pair_stream.specs.Orders.{Ordered, Complete};
 ghost use Rattle.pair_stream.specs.Parts.{parts_of};
 ghost use Rattle.pair_stream.specs.Streams.{Takes, is_over};

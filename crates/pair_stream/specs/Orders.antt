@@ -18,6 +18,7 @@ Once pairs = AllPairs (λ p q. p ≢ q) pairs
 abbrev pub BuildsSide : Pair → Pair → Type 0
 BuildsSide p q = (union p.a p.b ≡ q.a) ⊎ (union p.a p.b ≡ q.b)
 
+-- no pair stands twice, each stands after those that build its sides, and some pair builds each side
 pub record Ordered (pairs : List Pair) : Type 0 where
   pub once : Once pairs
   pub before : (j k : ℕ) (p q : Pair) → StandsAt pairs j p → StandsAt pairs k q → BuildsSide p q → j < k

@@ -69,6 +69,7 @@ fn is_split(graph: &Graph, set: RelSet, a: RelSet) -> bool
 }
 
 impl DpSub {
+    /// The pairs of the graph in this order. It takes no memory, and makes no probes.
     pub fn over(graph: &Graph) -> DpSub
         ensures list { result ≡ seq_dpsub graph.now }
         ensures complete { Complete graph.now result }
@@ -104,10 +105,8 @@ impl PairStream for DpSub {
                 Some(a) => {
                     self.first = a;
                     if is_split(&self.graph, self.set, a) {
-                        return Some(Pair {
-                            a,
-                            b: self.set.minus(a),
-                        });
+                        let b = self.set.minus(a);
+                        return Some(Pair { a, b });
                     }
                 }
                 None => {

@@ -6,6 +6,8 @@ mod collect;
 mod dpsub;
 mod parts;
 mod stream;
+#[cfg(test)]
+mod tests;
 
 pub use collect::collect_pairs;
 pub use dpsub::DpSub;

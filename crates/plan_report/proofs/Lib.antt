@@ -1,4 +1,4 @@
-pub mod Legals
+pub mod Heights
 pub mod Roots
 pub mod Plain
 pub mod Holdings

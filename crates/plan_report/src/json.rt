@@ -1,6 +1,6 @@
-//! The JSON of a planned query.
-ghost use Rattle.std.specs.Prelude.{◌≡◌, ◌<◌, ◌++◌, length, IfOk, codes, false};
-ghost use Rattle.serde_json.specs.View.{view, items_of};
+//! The JSON of an entry, and of the whole report.
+ghost use Rattle.std.specs.Prelude.{◌≡◌, ◌<◌, ◌++◌, length, IfOk, false};
+ghost use Rattle.serde_json.specs.View.{view};
 ghost use Rattle.serde_json.specs.Written.{compact_text, has_float};
 ghost use Rattle.dpe_base.specs.Queries.{relations};
 ghost use Rattle.join_graph.specs.Graphs.{graph_of};

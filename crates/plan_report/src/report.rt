@@ -76,7 +76,8 @@ impl Report {
         Ok(())
     }
 
-    /// Appends the entry of a query with this plan and number of pairs, and with the statistics where they are given.
+    /// Appends the entry of a query with this plan and this number of pairs, and with the statistics
+    /// where they are given.
     pub fn planned<M: CostModel>(
         &mut self,
         name: &Name,

@@ -1,10 +1,8 @@
-//! The text of a planned query.
+//! The lines of an entry.
 ghost use Rattle.std.specs.Prelude.{◌≡◌, ◌+◌, ◌^◌, ◌<◌, ◌++◌, length, OnOk, string_bytes};
 ghost use Rattle.dpe_base.specs.Queries.{relations};
-ghost use Rattle.dpe_base.specs.Sets.{full};
 ghost use Rattle.join_graph.specs.Graphs.{graph_of};
-ghost use Rattle.card_scaled.specs.Cards.{rows};
-ghost use Rattle.join_tree.specs.Trees.{Legal, cost, set_of};
+ghost use Rattle.join_tree.specs.Trees.{Legal, cost};
 ghost use Rattle.join_tree.specs.TreeOf.{tree_of};
 ghost use Rattle.plan_report.specs.Texts.{indent, query_line, numbers_line, scan_line, join_line, stats_text, plan_text, refused_text, height};
 

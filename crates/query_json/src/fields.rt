@@ -1,12 +1,12 @@
 //! What must stand at a site.
-ghost use Rattle.std.specs.Prelude.{◌≡◌, ◌^◌, ◌≤◌, ◌<◌, ℕ, Result, option_map, Some, codes};
+ghost use Rattle.std.specs.Prelude.{◌≡◌, ℕ, IfOk, Result, option_map};
 ghost use Rattle.std.specs.List.{list_all};
 ghost use Rattle.serde_json.specs.Data.{Data};
 ghost use Rattle.serde_json.specs.Find.{as_object, as_array};
 ghost use Rattle.serde_json.specs.View.{view, items_view};
 ghost use Rattle.query_json.specs.Answer.{Gives, GivesBy};
 ghost use Rattle.query_json.specs.declared.fault.FileFault.{FileFault};
-ghost use Rattle.query_json.specs.Walk.{is_printable, is_name, as_name, as_whole, as_list, as_version, as_pair, as_ratio, object_at, required, optional, each};
+ghost use Rattle.query_json.specs.Walk.{is_printable, is_name, as_name, as_whole, as_list, as_version, as_pair, as_ratio, object_at, present, required, optional, each};
 
 use crate::NAME_MAX;
 use crate::fault::FileFault;
@@ -15,7 +15,7 @@ use crate::items::Items;
 use crate::place::Place;
 use dpe_base::Name;
 use serde_json::Value;
-use std::alloc::Global;
+use std::alloc::{AllocError, Global};
 
 fn is_printable(bytes: &[u8]) -> bool
     ensures { result ≡ list_all is_printable bytes.now }
@@ -29,15 +29,25 @@ fn is_name(text: &str) -> bool
     1 <= text.len() && text.len() <= NAME_MAX && is_printable(text.as_bytes())
 }
 
+// The name that a value is, if it is one.
+fn as_name(alloc: Global, value: &Value) -> Result<Option<Name>, AllocError>
+    ensures { IfOk result (λ o. o ≡ as_name (view value.now)) }
+{
+    match value.as_str() {
+        Some(text) if is_name(text) => Ok(Some(Name::of(String::from_str(alloc, text)?))),
+        _ => Ok(None),
+    }
+}
+
 pub fn name_of(alloc: Global, member: Option<&Value>, place: Place) -> Result<Name, FileFault>
     ensures { Gives result (required as_name place (option_map (λ v. view v.now) member.entry)) }
 {
     let Some(value) = member else {
         return Err(FileFault::Shape(place));
     };
-    match value.as_str() {
-        Some(text) if is_name(text) => Ok(Name::of(String::from_str(alloc, text)?)),
-        _ => Err(FileFault::Shape(place)),
+    match as_name(alloc, value)? {
+        Some(name) => Ok(name),
+        None => Err(FileFault::Shape(place)),
     }
 }
 
@@ -70,6 +80,16 @@ pub fn array_of(member: Option<&Value>, place: Place) -> Result<&[Value], FileFa
     }
 }
 
+// A member that is null counts as absent.
+fn present(member: Option<&Value>) -> Option<&Value>
+    ensures { option_map (λ v. view v.now) result ≡ present (option_map (λ v. view v.now) member.entry) }
+{
+    match member {
+        Some(value) if !value.is_null() => Some(value),
+        _ => None,
+    }
+}
+
 #[tactic(auto, using(crate::proofs::Lists::item_count_view))]
 pub fn optional_array_of(
     member: Option<&Value>,
@@ -79,12 +99,9 @@ pub fn optional_array_of(
     ensures { GivesBy (λ o. option_map (λ vs. items_view vs.now) o) result
         (optional (as_list limit) place (option_map (λ v. view v.now) member.entry)) }
 {
-    let Some(value) = member else {
+    let Some(value) = present(member) else {
         return Ok(None);
     };
-    if value.is_null() {
-        return Ok(None);
-    }
     match value.as_array() {
         Some(values) if values.len() <= limit => Ok(Some(values.as_slice())),
         _ => Err(FileFault::Shape(place)),
@@ -94,12 +111,9 @@ pub fn optional_array_of(
 pub fn version_of(member: Option<&Value>, place: Place) -> Result<Option<u64>, FileFault>
     ensures { Gives result (optional as_version place (option_map (λ v. view v.now) member.entry)) }
 {
-    let Some(value) = member else {
+    let Some(value) = present(member) else {
         return Ok(None);
     };
-    if value.is_null() {
-        return Ok(None);
-    }
     match value.as_u64() {
         Some(number) if number == 1 => Ok(Some(number)),
         _ => Err(FileFault::Shape(place)),
@@ -113,15 +127,12 @@ pub fn optional_name_of(
 ) -> Result<Option<Name>, FileFault>
     ensures { Gives result (optional as_name place (option_map (λ v. view v.now) member.entry)) }
 {
-    let Some(value) = member else {
+    let Some(value) = present(member) else {
         return Ok(None);
     };
-    if value.is_null() {
-        return Ok(None);
-    }
-    match value.as_str() {
-        Some(text) if is_name(text) => Ok(Some(Name::of(String::from_str(alloc, text)?))),
-        _ => Err(FileFault::Shape(place)),
+    match as_name(alloc, value)? {
+        Some(name) => Ok(Some(name)),
+        None => Err(FileFault::Shape(place)),
     }
 }
 
@@ -142,12 +153,9 @@ fn ratio_of(values: &[Value]) -> Option<Ratio>
 pub fn optional_ratio_of(member: Option<&Value>, place: Place) -> Result<Option<Ratio>, FileFault>
     ensures { Gives result (optional as_ratio place (option_map (λ v. view v.now) member.entry)) }
 {
-    let Some(value) = member else {
+    let Some(value) = present(member) else {
         return Ok(None);
     };
-    if value.is_null() {
-        return Ok(None);
-    }
     let Some(values) = value.as_array() else {
         return Err(FileFault::Shape(place));
     };

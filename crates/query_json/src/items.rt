@@ -1,9 +1,10 @@
-//! A `Vec`, which contracts see as the list of its elements.
+//! Lists that contracts see as lists.
 ghost use Rattle.std.specs.Prelude.{◌≡◌, [], ◌∷◌, ◌++◌, length, OnOk, OnErr};
 
 use std::alloc::{AllocError, Global};
 use std::marker::Model;
 
+/// A list of elements, which contracts see as that list.
 #[derive(Debug, Drop)]
 pub struct Items<T> {
     items: Vec<T>,
@@ -21,6 +22,7 @@ impl<T> Model for Items<T> {
 }
 
 impl<T> Items<T> {
+    /// An empty list. It takes no memory.
     pub fn new(alloc: Global) -> Items<T>
         ensures { result ≡ [] }
     {
@@ -29,18 +31,21 @@ impl<T> Items<T> {
         }
     }
 
+    /// The elements of a vector. It takes no memory.
     pub fn from_vec(items: Vec<T>) -> Items<T>
         ensures { result ≡ items.items }
     {
         Items { items }
     }
 
+    /// The elements.
     pub fn as_slice(&self) -> &[T]
         ensures { result.now ≡ self.now }
     {
         self.items.as_slice()
     }
 
+    /// The elements as a vector. It takes no memory.
     pub fn into_vec(self) -> Vec<T>
         ensures { result.items ≡ self }
     {
@@ -48,6 +53,7 @@ impl<T> Items<T> {
         items
     }
 
+    /// How many elements there are.
     pub fn len(&self) -> usize
         ensures { result ≡ length self.now }
     {
@@ -56,6 +62,7 @@ impl<T> Items<T> {
 }
 
 impl<T: Drop> Items<T> {
+    /// Puts an element at the end. Without memory the list stays as it was.
     pub fn push(&mut self, item: T) -> Result<(), AllocError>
         ensures ok { OnOk result (self.new ≡ self.old ++ item ∷ []) }
         ensures err { OnErr result (self.new ≡ self.old) }

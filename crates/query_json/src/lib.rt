@@ -15,6 +15,8 @@ mod query;
 mod refusal;
 mod scope;
 mod tables;
+#[cfg(test)]
+mod tests;
 mod text;
 mod walk;
 mod workload;

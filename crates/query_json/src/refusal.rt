@@ -5,28 +5,35 @@ ghost use Rattle.query_json.specs.declared.refusal.Stop.TheVariants.{Memory};
 use dpe_base::Name;
 use std::alloc::{AllocError, AllocFailed};
 
-/// The filter or the selectivity that is no fraction, by its relation's or its join's number from 0.
+/// A filter or a selectivity, by its relation's or its join's number from 0.
 #[derive(Clone, Copy, Debug, PartialEq, Eq)]
 pub enum FracPlace {
+    /// The filter of this relation.
     Relation(u32),
+    /// The selectivity of this join.
     Join(u32),
 }
 
-/// Why a query is refused: the first of these that holds, and of its places the first.
+/// Why a query is refused: the first of these that holds, and of its relations or joins the first.
 #[derive(Debug, Drop)]
 pub enum QueryRefusal {
+    /// The query has no relation.
     NoRelations,
+    /// The query has more than 16 relations, this many.
     TooManyRelations(u64),
-    /// The alias that an earlier relation has.
+    /// The alias of the first relation whose alias an earlier one has.
     DuplicateAlias(Name),
+    /// The table of a relation, which the file doesn't have.
     UnknownTable(Name),
+    /// The end of a join, which is no alias of the query. The left end comes before the right one.
     UnknownAlias(Name),
-    /// The alias, and the column that its table lacks.
+    /// The end of a join, and the column that its table doesn't have. The left end comes before the right one.
     UnknownColumn(Name, Name),
     /// The alias that stands at both ends of a join.
     SelfJoin(Name),
+    /// A fraction [n, d] without 1 ≤ n ≤ d ≤ 2^40. The filters come before the selectivities.
     BadFraction(FracPlace),
-    /// The alias of the first relation that the joins don't connect with the first of all.
+    /// The alias of the first relation that no walk along the joins reaches from the first relation of all.
     Disconnected(Name),
 }
 

@@ -163,7 +163,7 @@ impl Element for QueryItem {
 }
 
 #[tactic(auto, unfolding(crate::specs::Walk::file_at))]
-fn walk(alloc: Global, value: &Value) -> Result<File, FileFault>
+fn file_at(alloc: Global, value: &Value) -> Result<File, FileFault>
     ensures { Gives result (file_at (view value.now)) }
 {
     object_of(value, place(Site::Root, 0, 0))?;
@@ -173,14 +173,6 @@ fn walk(alloc: Global, value: &Value) -> Result<File, FileFault>
     let query_list = array_of(value.get("queries"), place(Site::Queries, 0, 0))?;
     let queries = elements(alloc, 0, query_list)?;
     Ok(File { tables, queries })
-}
-
-#[tactic(auto, using(crate::proofs::WalkLaws::given_within))]
-fn file_at(alloc: Global, value: &Value) -> Result<File, FileFault>
-    ensures value { Gives result (file_at (view value.now)) }
-    ensures within { IfOk result IsFileWithin }
-{
-    walk(alloc, value)
 }
 
 #[tactic(auto, using(crate::proofs::JsonLaws::json_found, crate::proofs::JsonLaws::json_none))]

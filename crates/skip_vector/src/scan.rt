@@ -1,5 +1,5 @@
 //! The scan sees a part by `len`, `probe` and `after` alone, so that each entry that it looks at takes a step.
-ghost use Rattle.std.specs.Prelude.{◌≡◌, ◌≤◌, ◌+◌, ◌-◌, ℕ, length, MatchOption};
+ghost use Rattle.std.specs.Prelude.{◌≡◌, ◌≤◌, ◌+◌, ◌-◌, length, MatchOption};
 ghost use Rattle.skip_vector.specs.Skips.{IsFirstFree, NoneFree, probes};
 
 use crate::prefix::blocking_len;

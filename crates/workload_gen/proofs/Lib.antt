@@ -1,4 +1,10 @@
+pub mod Accepted
 pub mod Arrays
+pub mod Connected
+pub mod Entries
+pub mod FileOf
+pub mod Found
 pub mod Lists
+pub mod Names
 pub mod Plain
 pub mod Valid

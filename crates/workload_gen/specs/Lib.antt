@@ -1,3 +1,4 @@
+pub mod Accepted
 pub mod Draws
 pub mod Sample
 pub mod Values

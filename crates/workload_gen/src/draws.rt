@@ -26,7 +26,7 @@ fn pick_from(rng: &mut Xoshiro256PlusPlus, low: u64, k: u64) -> u64
 }
 
 #[tactic(auto, unfolding(crate::specs::Draws::table))]
-pub fn table(rng: &mut Xoshiro256PlusPlus) -> Table
+fn table(rng: &mut Xoshiro256PlusPlus) -> Table
     ensures { (result, rng.new) ≡ table rng.old }
 {
     let rows = pick_from(rng, 1, 1_000_000);

@@ -1,7 +1,7 @@
 use crate::generate;
+use query_json::{Part, read};
 use rand_core::{Rng, SeedableRng};
 use rand_xoshiro::Xoshiro256PlusPlus;
-use serde_json::Value;
 use std::test::Fail;
 
 // The values that the Rust crate `rand` keeps for this generator and seed.
@@ -28,13 +28,6 @@ fn fingerprint(bytes: &[u8]) -> u64 {
     hash
 }
 
-fn members(query: &Value, name: &str) -> usize {
-    query
-        .get(name)
-        .and_then(Value::as_array)
-        .map_or(0, |list| list.len())
-}
-
 // Lengths, relations, joins and fingerprints are those of another program, written in Python.
 #[test]
 fn three_workloads(rt: HostRuntime) -> Result<(), Fail> {
@@ -51,23 +44,19 @@ fn three_workloads(rt: HostRuntime) -> Result<(), Fail> {
             hash,
             "fingerprint of {number}"
         );
-        let workload = Value::from_slice(alloc, bytes.as_slice())?;
-        assert_eq!(rt; members(&workload, "tables"), 8);
-        assert_eq!(rt; members(&workload, "queries"), 8);
-        let mut found = (0usize, 0usize);
-        for query in workload
-            .get("queries")
-            .and_then(Value::as_array)
-            .into_iter()
-            .flatten()
-        {
-            found.0 = found.0.saturating_add(members(query, "relations"));
-            found.1 = found.1.saturating_add(members(query, "joins"));
+        let workload = read(alloc, bytes.as_slice()).ok().ok_or("a fault")?;
+        let mut found = (0usize, 0usize, 0usize);
+        for i in 0..workload.len() {
+            if let Part::Accepted(named) = &workload.entry(i).part {
+                found.0 = found.0.saturating_add(1);
+                found.1 = found.1.saturating_add(named.query.rels().len());
+                found.2 = found.2.saturating_add(named.query.preds().len());
+            }
         }
         assert_eq!(rt;
             found,
-            (relations, joins),
-            "relations and joins of {number}"
+            (8, relations, joins),
+            "queries, relations and joins of {number}"
         );
     }
     Ok(())

@@ -1,5 +1,7 @@
 ghost use Rattle.std.specs.Prelude.{◌≡◌, IfOk};
 ghost use Rattle.serde_json.specs.View.{view};
+ghost use Rattle.query_json.specs.Entries.{entries_of};
+ghost use Rattle.workload_gen.specs.Accepted.{HoldsEightQueries};
 ghost use Rattle.workload_gen.specs.Draws.{sample_of};
 ghost use Rattle.workload_gen.specs.Values.{workload_of, workload_value};
 
@@ -25,7 +27,10 @@ fn workload(alloc: Global, number: u64) -> Result<Value, AllocError>
 /// The bytes of the sample workload of a number: compact JSON, without a newline.
 #[tactic(auto, using(crate::proofs::Plain::workload_is_plain), unfolding(crate::specs::Values::workload_of))]
 pub fn generate(alloc: Global, number: u64) -> Result<Vec<u8>, AllocError>
-    ensures { IfOk result (λ bytes. bytes.items ≡ workload_of number) }
+    ensures text { IfOk result (λ bytes. bytes.items ≡ workload_of number) }
+
+    // The reader of workload files finds no fault in them and refuses none of their eight queries.
+    ensures accepted { IfOk result (λ bytes. HoldsEightQueries (entries_of bytes.items)) }
 {
     workload(alloc, number)?.to_vec(alloc)
 }

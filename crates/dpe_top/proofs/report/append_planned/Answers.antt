@@ -1,4 +1,3 @@
-use Rattle.std.proofs.Common.{subst}
 use Rattle.dpe_top.proofs.Plans.{plan_below}
 use Rattle.dpe_top.proofs.report.append_planned.Goals as goal
 

@@ -1,7 +1,7 @@
-use Rattle.std.proofs.Common.{◌≡◌, ◌∙◌, sym, refl, arith, length, []}
+use Rattle.std.proofs.Common.{◌≡◌, ◌∙◌, sym, length, []}
 use Rattle.std.proofs.lemmas.Bool.{false≢true, eqb-true}
-use Rattle.enum_dpccp.specs.Growth.{calling_left, CallFits}
-use Rattle.enum_dpccp.proofs.GrowthLaws.{spare_left, outer_left, outer_fits, popped, has_room, enter_left, enter_fits, drop_left, none_left, spent_left, spent_fits}
+use Rattle.enum_dpccp.specs.Growth.{calling_left, CallFits, CallsFit}
+use Rattle.enum_dpccp.proofs.GrowthLaws.{spare_left, calls_begin, fits_begin, popped, none_left, spent_left, spent_fits, outer_left, all_left}
 use Rattle.enum_dpccp.proofs.growth.Growth.move_on.Goals as goal
 
 pub returns-then-is_empty-clause-none : goal.returns-then-is_empty-clause-none
@@ -11,55 +11,37 @@ returns-then-is_empty-clause-none c =
 pub calls-init : goal.calls-init
 calls-init c =
     record {
-      fits = outer_fits c.args.graph.now c.args.self.now.calling.items c.push.new.self.items c.args.self.now.giving c.empty.result c.requires.fits.calling c.requires.fits.giving c.empty.ensures c.push.ensures.items;
-      left = outer_left c.args.graph.now c.args.self.now.calling.items c.push.new.self.items c.args.self.now.giving _ c.requires.given refl c.empty.ensures c.push.ensures.items;
+      calling = c.requires.fits.calling;
+      call = fits_begin c.args.graph.now (length c.args.self.now.calling.items) c.args.self.now.giving c.empty.result c.requires.fits.giving c.empty.ensures;
+      left = calls_begin c.args.graph.now c.args.self.now.giving c.empty.result c.args.self.now.calling.items c.requires.given c.empty.ensures;
     }
 
-pub next_child-requires : goal.next_child-requires
-next_child-requires c =
-    let fits : CallFits c.args.graph.now (length c.pop.new.self.items) c.in-Some.call = (popped c.args.graph.now c.calls.self.calling.items c.pop.new.self.items c.in-Some.call c.calls.invariant.fits c.in-Some.ensures.items).1 in
-    (length c.pop.new.self.items, fits)
-
-pub push-requires-in-Some-next_child : goal.push-requires-in-Some-next_child
-push-requires-in-Some-next_child c =
-    let fits : CallFits c.args.graph.now (length c.pop.new.self.items) c.in-Some.call = (popped c.args.graph.now c.calls.self.calling.items c.pop.new.self.items c.in-Some.call c.calls.invariant.fits c.in-Some.ensures.items).1 in
-    (omega arith, has_room c.args.graph.now (length c.pop.new.self.items) c.in-Some.call c.n-n.ensures.valid fits)
-
-pub returns-in-Some-next_child-clause-left : goal.returns-in-Some-next_child-clause-left
-returns-in-Some-next_child-clause-left c =
-    enter_left c.args.graph.now c.calls.self.calling.items c.pop.new.self.items c.push-in-Some-next_child.new.self.items c.in-Some.call c.in-Some-next_child.child c.union.result c.union-in-Some-next_child.result c.empty-in-Some-next_child.result
-    c.n-n.ensures.valid c.in-Some.ensures.items c.in-Some-next_child.ensures.some c.push-in-Some-next_child.ensures.items c.union.ensures c.union-in-Some-next_child.ensures c.empty-in-Some-next_child.ensures
-    ∙ sym c.calls.invariant.left
-
-pub returns-in-Some-next_child-clause-fits : goal.returns-in-Some-next_child-clause-fits
-returns-in-Some-next_child-clause-fits c =
-    let fits =
-    enter_fits c.args.graph.now c.calls.self.calling.items c.pop.new.self.items c.push-in-Some-next_child.new.self.items c.in-Some.call c.in-Some-next_child.child c.union.result c.union-in-Some-next_child.result c.empty-in-Some-next_child.result
-    c.n-n.ensures.valid c.calls.invariant.fits c.in-Some.ensures.items c.in-Some-next_child.ensures.some c.push-in-Some-next_child.ensures.items c.union.ensures c.union-in-Some-next_child.ensures c.empty-in-Some-next_child.ensures in
-    record { calling = fits.0; giving = fits.1 }
-
-pub calls-preserved : goal.calls-preserved
-calls-preserved c =
-    record {
-      fits = (popped c.args.graph.now c.calls.self.calling.items c.pop.new.self.items c.in-Some.call c.calls.invariant.fits c.in-Some.ensures.items).0;
-      left = c.calls.invariant.left ∙ drop_left c.args.graph.now c.calls.self.calling.items c.pop.new.self.items c.in-Some.call c.in-Some.ensures.items c.in_default-next_child.ensures.none;
-    }
-
-pub returns-clause-left : goal.returns-clause-left
-returns-clause-left c =
+pub returns-in-None-clause-left : goal.returns-in-None-clause-left
+returns-in-None-clause-left c =
     let none : (calling_left c.args.graph.now c.calls.self.calling.items ≡ []) × (c.pop.new.self.items ≡ []) =
-    none_left c.args.graph.now c.calls.self.calling.items c.pop.new.self.items c.in_default.ensures.items (λ l. false≢true (c.in_default.ensures.variant.1 l)) in
-    spent_left c.args.graph.now c.spent-self.result c.pop.new.self.items c.spent-self.ensures none.1 ∙ sym (c.calls.invariant.left ∙ none.0)
+    none_left c.args.graph.now c.calls.self.calling.items c.pop.new.self.items c.in-None.ensures.items (λ l. false≢true (c.in-None.ensures.variant.1 l)) in
+    spent_left c.args.graph.now c.spent-self.result c.pop.new.self.items c.spent-self.ensures none.1
+    ∙ sym (c.calls.invariant.left ∙ all_left c.args.graph.now c.calls.self.calling.items c.calls.call c.in_default.ensures.none none.0)
 
-pub returns-clause-fits : goal.returns-clause-fits
-returns-clause-fits c =
+pub returns-in-None-clause-fits : goal.returns-in-None-clause-fits
+returns-in-None-clause-fits c =
     let none : (calling_left c.args.graph.now c.calls.self.calling.items ≡ []) × (c.pop.new.self.items ≡ []) =
-    none_left c.args.graph.now c.calls.self.calling.items c.pop.new.self.items c.in_default.ensures.items (λ l. false≢true (c.in_default.ensures.variant.1 l)) in
+    none_left c.args.graph.now c.calls.self.calling.items c.pop.new.self.items c.in-None.ensures.items (λ l. false≢true (c.in-None.ensures.variant.1 l)) in
     let fits = spent_fits c.args.graph.now c.spent-self.result c.pop.new.self.items c.n-n.ensures.valid c.spent-self.ensures none.1 in
     record { calling = fits.0; giving = fits.1 }
 
-pub returns-clause-none : goal.returns-clause-none
-returns-clause-none c =
+pub returns-in-None-clause-none : goal.returns-in-None-clause-none
+returns-in-None-clause-none c =
     let none : (calling_left c.args.graph.now c.calls.self.calling.items ≡ []) × (c.pop.new.self.items ≡ []) =
-    none_left c.args.graph.now c.calls.self.calling.items c.pop.new.self.items c.in_default.ensures.items (λ l. false≢true (c.in_default.ensures.variant.1 l)) in
+    none_left c.args.graph.now c.calls.self.calling.items c.pop.new.self.items c.in-None.ensures.items (λ l. false≢true (c.in-None.ensures.variant.1 l)) in
     λ _. spent_left c.args.graph.now c.spent-self.result c.pop.new.self.items c.spent-self.ensures none.1
+
+pub calls-preserved : goal.calls-preserved
+calls-preserved c =
+    let fits : CallsFit c.args.graph.now 0 c.pop.new.self.items × CallFits c.args.graph.now (length c.pop.new.self.items) c.in-Some-pop.outer =
+    popped c.args.graph.now c.calls.self.calling.items c.pop.new.self.items c.in-Some-pop.outer c.calls.invariant.calling c.in-Some-pop.ensures.items in
+    record {
+      calling = fits.0;
+      call = fits.1;
+      left = c.calls.invariant.left ∙ outer_left c.args.graph.now c.calls.self.calling.items c.pop.new.self.items c.calls.call c.in-Some-pop.outer c.in_default.ensures.none c.in-Some-pop.ensures.items;
+    }

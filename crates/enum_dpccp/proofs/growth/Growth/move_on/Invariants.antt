@@ -1,12 +1,13 @@
-use Rattle.std.proofs.Common.{◌≡◌, length}
-use Rattle.enum_dpccp.specs.Growth.{calling_left, growth_left, CallsFit}
+use Rattle.std.proofs.Common.{◌≡◌, ◌++◌, length}
+use Rattle.enum_dpccp.specs.Growth.{calls_after, calling_left, growth_left, CallFits, CallsFit}
 use Rattle.enum_dpccp.proofs.growth.Growth.move_on.Given as goal
 
 abbrev pub invariant-calls : goal.invariant-calls
 invariant-calls l =
     record {
-      fits : CallsFit l.graph 0 l.self.calling.items;
-      left : growth_left l.graph l.fn.self ≡ calling_left l.graph l.self.calling.items;
+      calling : CallsFit l.graph 0 l.self.calling.items;
+      call : CallFits l.graph (length l.self.calling.items) l.call;
+      left : growth_left l.graph l.fn.self ≡ calls_after l.graph l.call l.call.last ++ calling_left l.graph l.self.calling.items;
     }
 
 abbrev pub decreases-calls : goal.decreases-calls

@@ -21,8 +21,8 @@ next_with_least-requires-clause-known g c = within_most c.scan.self-inside.set c
 
 pub returns-then-is_split-clause-pair : goal.returns-then-is_split-clause-pair
 returns-then-is_split-clause-pair g c =
-    split_taken c.scan.self-inside.graph c.args.self.now c.scan.self-inside.set c.scan.self-inside.first c.in-Some.a c.minus.result
-    c.scan.invariant.left c.in-Some.ensures.some (sym c.if-is_split.true ∙ c.is_split.ensures) c.minus.ensures
+    split_taken c.scan.self-inside.graph c.args.self.now c.scan.self-inside.set c.scan.self-inside.first c.in-Some.a c.minus-b.result
+    c.scan.invariant.left c.in-Some.ensures.some (sym c.if-is_split.true ∙ c.is_split.ensures) c.minus-b.ensures
 
 pub scan-smaller-else-is_split : goal.scan-smaller-else-is_split
 scan-smaller-else-is_split g c =

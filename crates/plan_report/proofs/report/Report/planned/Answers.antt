@@ -1,7 +1,7 @@
 use Rattle.std.proofs.Common.{◌∙◌, ap, sym, arith}
 use Rattle.dpe_base.specs.Sets.{full}
 use Rattle.join_tree.specs.TreeOf.{tree_of}
-use Rattle.plan_report.proofs.Legals.{full_some, legal_height_small}
+use Rattle.plan_report.proofs.Heights.{full_some, legal_height_small}
 use Rattle.plan_report.proofs.Plain.{planned_plain}
 use Rattle.plan_report.proofs.report.Report.planned.Goals as goal
 
