@@ -1,5 +1,5 @@
 -- What is written for the words and the bytes, and the status.
-use Rattle.std.specs.Prelude.{◌≡◌, ◌+◌, ◌≤◌, ◌⊎◌, ℕ, Bool, false, List, length, nat_lt, if◌then◌else◌, Option, Some, None, Result, Ok, Err}
+use Rattle.std.specs.Prelude.{◌≡◌, ◌+◌, ◌≤◌, ◌⊎◌, ℕ, Bool, false, List, length, nat_lt, if◌then◌else◌, Option, Some, None, IsSome, Result, Ok, Err, IsOk}
 use Rattle.std.specs.Io.KnownBytes.{Consumes, IsAtEnd}
 use Rattle.io_edge.specs.Causes.{Rose}
 use Rattle.cost_model.specs.declared.model.ModelKind.{ModelKind}
@@ -53,6 +53,16 @@ IsWhole ReadFault = ⊥
 IsWhole WriteFault = ⊥
 IsWhole NoMemory = ⊥
 
+-- a status with which a report is written
+abbrev pub IsReported : Status → Type 0
+IsReported Done = Unit {0}
+IsReported SomeRefused = Unit {0}
+IsReported Usage = ⊥
+IsReported Input = ⊥
+IsReported ReadFault = ⊥
+IsReported WriteFault = ⊥
+IsReported NoMemory = ⊥
+
 -- an end without a whole answer: want of memory is free, a fault of reading has its cause
 abbrev pub MayEnd : Status → ℕ → ℕ → Bool → Type 0
 MayEnd Done before now sure = ⊥
@@ -80,3 +90,9 @@ Took Input before now = IsRead INPUT_MAX before now ⊎ IsTooLong INPUT_MAX befo
 Took ReadFault before now = ⊥
 Took WriteFault before now = ⊥
 Took NoMemory before now = ⊥
+
+-- the words are a command line, and the bytes a workload
+pub record IsWellFormed (words : List (List ℕ)) (bytes : List ℕ) : Type 0 where
+  pub line : IsSome (model_of words)
+  pub short : length bytes ≤ INPUT_MAX
+  pub workload : IsOk (entries_of bytes)

@@ -1,10 +1,10 @@
 //! The top call.
-ghost use Rattle.std.specs.Prelude.{◌≡◌, ◌↔◌, Err, ◌<◌, ◌≤◌, ℕ, List, false, length, take, IfOk, IfErr, IfSome, IsSome, IsNone, None};
+ghost use Rattle.std.specs.Prelude.{◌≡◌, ◌<◌, ◌≤◌, ◌⊎◌, ℕ, List, false, length, take, Err, IfOk, IfErr, IfSome, IsSome, IsNone};
 ghost use Rattle.std.specs.Io.KnownBytes.{Appends, Keeps};
 ghost use Rattle.io_edge.specs.Causes.{Rose};
 ghost use Rattle.dpe_top.specs.Lines.{usage_line};
 ghost use Rattle.dpe_top.specs.Replies.{Replies};
-ghost use Rattle.dpe_top.specs.Reply.{IsText, IsWhole, MayEnd, Took, answer, answer_of_bytes, status_of};
+ghost use Rattle.dpe_top.specs.Reply.{IsReported, IsText, IsWellFormed, IsWhole, MayEnd, Took, answer, answer_of_bytes, status_of};
 ghost use Rattle.dpe_top.specs.Words.{model_of, texts_of};
 
 use crate::INPUT_MAX;
@@ -71,6 +71,7 @@ fn reply_to<S: Source>(alloc: Global, words: &[String], source: &mut S) -> Resul
     ensures line { IsSome (model_of (texts_of words.now)) → IfOk result (λ r. Took r.status (S.left source.old) (S.left source.new)) }
     ensures err { IfErr result (λ e. MayEnd e (S.faults source.old) (S.faults source.new) (S.sure source.old)) }
     ensures fault { result ≡ Err Status.ReadFault → IsSome (model_of (texts_of words.now)) }
+    ensures complete { IfOk result (λ r. IfSome (S.left source.old) (λ bytes. IsWellFormed (texts_of words.now) bytes → IsReported r.status)) }
 {
     match model_of(words) {
         Some(model) => read_reply(alloc, model, source),
@@ -112,6 +113,11 @@ pub fn dpe<R: Threads + Sync, S: Source, K: Sink, G: Gate>(
         × (K.sure sink.old < length text)
         × ((n : ℕ) × (n < length text) × Appends (K.held sink.old) (K.held sink.new) (take n text))) }
     ensures memory { result ≡ Status.NoMemory → Keeps (K.held sink.old) (K.held sink.new) }
+
+    // A workload is reported, where no end fails and there is memory.
+    ensures complete { IfSome (S.left source.old) (λ bytes. IsWellFormed (texts_of words.now) bytes
+        → (Rose (S.faults source.old) (S.faults source.new) → ⊥) → (Rose (K.faults sink.old) (K.faults sink.new) → ⊥)
+        → IsReported result ⊎ (result ≡ Status.NoMemory)) }
 {
     let reply = match reply_to(alloc, words, source) {
         Ok(reply) => reply,
