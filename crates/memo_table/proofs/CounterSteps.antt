@@ -6,7 +6,7 @@ use Rattle.memo_table.specs.declared.view.View.{View}
 use Rattle.memo_table.specs.declared.view.TreeSpace.{TreeSpace}
 use Rattle.memo_table.specs.Views.{with_ticket, with_floor}
 use Rattle.memo_table.specs.Rule.{counter, Counts, IsEmptyOrMade, IsLive, AreMemoWords, Kept}
-use Rattle.memo_table.specs.Steps.{Sitter, draw_tells, look_tells}
+use Rattle.memo_table.specs.Steps.{SeatState, draw_tells, look_tells}
 use Rattle.memo_table.proofs.Counting.{staying, drawing, draw_fits, tickets_below, knowing}
 use Rattle.memo_table.proofs.Holding.{live_of, moved, turned, others_spent}
 use Rattle.memo_table.proofs.MemoWords.{word_beside}
@@ -19,7 +19,7 @@ module _ (kind : ℕ) (space : TreeSpace) where
     made = λ u. let G : ℕ → Type 0 = IsEmptyOrMade kind space u in subst G (sym (word_beside ws n u)) (m.made u);
   }
 
-  pub draws : (slots id : ℕ) (me : Sitter) → 1 ≤ me.0.weight → 1 ≤ me.0.allowance → Allows (Kept kind space) slots id me 0 (λ n. (n + 1) % 2 ^ 64) (draw_tells (step slots 0 1 0 none) me)
+  pub draws : (slots id : ℕ) (me : SeatState) → 1 ≤ me.0.weight → 1 ≤ me.0.allowance → Allows (Kept kind space) slots id me 0 (λ n. (n + 1) % 2 ^ 64) (draw_tells (step slots 0 1 0 none) me)
   draws slots id me heavy may s k home at small =
       let v : View = me.0 in
       let live = live_of kind space s.words v (k.views id v at) heavy in
@@ -45,7 +45,7 @@ module _ (kind : ℕ) (space : TreeSpace) where
         (refl, record { view = refl; floor = live.floor; above = tickets_below n s.views id v k.counts at }),
       )
 
-  pub looks : (slots id : ℕ) (me : Sitter) → 1 ≤ me.0.weight → Allows (Kept kind space) slots id me 0 (λ n. n) (look_tells (step slots 0 0 0 none) me)
+  pub looks : (slots id : ℕ) (me : SeatState) → 1 ≤ me.0.weight → Allows (Kept kind space) slots id me 0 (λ n. n) (look_tells (step slots 0 0 0 none) me)
   looks slots id me heavy s k home at small =
       let v : View = me.0 in
       let live = live_of kind space s.words v (k.views id v at) heavy in

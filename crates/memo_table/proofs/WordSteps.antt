@@ -15,7 +15,7 @@ use Rattle.memo_table.specs.declared.view.View.{View}
 use Rattle.memo_table.specs.declared.view.TreeSpace.{TreeSpace}
 use Rattle.memo_table.specs.Views.{with_bound, with_offer}
 use Rattle.memo_table.specs.Rule.{TableState, memo_word, counter, Counts, IsEmptyOrMade, IsBound, IsLive, IsTreeSpace, AreMemoWords, Kept}
-use Rattle.memo_table.specs.Steps.{Sitter, FindsWord, load_tells, offer_tells}
+use Rattle.memo_table.specs.Steps.{SeatState, FindsWord, load_tells, offer_tells}
 use Rattle.memo_table.proofs.Bounds.{first_stands, others_stand, first_or_other}
 use Rattle.memo_table.proofs.Counting.{staying}
 use Rattle.memo_table.proofs.Holding.{live_of, moved, turned}
@@ -51,7 +51,7 @@ module _ (kind : ℕ) (space : TreeSpace) where
         (first_or_other (t, memo_word s.words t) v.bounds b has);
   }
 
-  pub loads : (slots id : ℕ) (me : Sitter) (t y : ℕ) → 1 ≤ me.0.weight → Contains me.0.bounds (t, y)
+  pub loads : (slots id : ℕ) (me : SeatState) (t y : ℕ) → 1 ≤ me.0.weight → Contains me.0.bounds (t, y)
       → Allows (Kept kind space) slots id me (t + 1) (λ n. n) (load_tells kind (step slots (t + 1) 0 0 none) me)
   loads slots id me t y heavy h s k home at small =
       let v : View = me.0 in
@@ -158,7 +158,7 @@ module _ (kind : ℕ) (space : TreeSpace) where
         (let F : ℕ → Type 0 = λ a. Counts a (set s.views id (with_bound v t w)) in
         subst F (sym (counter_beside s.words (min n w) t)) (staying (counter s.words) s.views id v (with_bound v t w) k.counts at refl refl refl))
 
-  pub offers : (slots id : ℕ) (me : Sitter) (t w : ℕ) → 1 ≤ me.0.weight → t ≢ 0 → Within t (full (relations space.query)) → IsEmptyOrMade kind space t w
+  pub offers : (slots id : ℕ) (me : SeatState) (t w : ℕ) → 1 ≤ me.0.weight → t ≢ 0 → Within t (full (relations space.query)) → IsEmptyOrMade kind space t w
       → Allows (Kept kind space) slots id me (t + 1) (λ n. min n w) (offer_tells (step slots (t + 1) w 0 none) me)
   offers slots id me t w heavy some' within word s k home at small =
       let v : View = me.0 in

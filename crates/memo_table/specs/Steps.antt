@@ -9,8 +9,8 @@ use Rattle.memo_table.specs.declared.view.TreeSpace.{TreeSpace}
 use Rattle.memo_table.specs.Views.{EachOnceBelow, with_bound, with_offer, with_ticket, with_floor}
 
 -- a seat's view, and the slots that it holds, of which there are none
-abbrev pub Sitter : Type 0
-Sitter = Me (Unit {0}) View
+abbrev pub SeatState : Type 0
+SeatState = Me (Unit {0}) View
 
 -- the word found is a bound more: that of a tree over the set, and at most each bound of the set
 pub record FindsWord (kind s : ℕ) (v : View) (n : ℕ) (w : View) : Type 0 where
@@ -19,10 +19,10 @@ pub record FindsWord (kind s : ℕ) (v : View) (n : ℕ) (w : View) : Type 0 whe
   pub some : n < EMPTY
   pub least : (b : ℕ) → Contains v.bounds (s, b) → n ≤ b
 
-abbrev pub load_tells : ℕ → Step (Unit {0}) → Sitter → ℕ → Sitter → Type 0
+abbrev pub load_tells : ℕ → Step (Unit {0}) → SeatState → ℕ → SeatState → Type 0
 load_tells kind st m n m' = (m'.1 ≡ m.1) × ((s : ℕ) → st.word ≡ s + 1 → FindsWord kind s m.0 n m'.0)
 
-abbrev pub offer_tells : Step (Unit {0}) → Sitter → ℕ → Sitter → Type 0
+abbrev pub offer_tells : Step (Unit {0}) → SeatState → ℕ → SeatState → Type 0
 offer_tells st m n m' = (m'.1 ≡ m.1) × ((s : ℕ) → st.word ≡ s + 1 → m'.0 ≡ with_offer m.0 s st.first)
 
 -- the number drawn is at or above the floor, and above each of the seat's tickets
@@ -31,7 +31,7 @@ pub record DrawsTicket (v : View) (n : ℕ) (w : View) : Type 0 where
   pub floor : v.floor ≤ n
   pub above : All (λ x. x < n) v.tickets
 
-abbrev pub draw_tells : Step (Unit {0}) → Sitter → ℕ → Sitter → Type 0
+abbrev pub draw_tells : Step (Unit {0}) → SeatState → ℕ → SeatState → Type 0
 draw_tells st m n m' = (m'.1 ≡ m.1) × DrawsTicket m.0 n m'.0
 
 -- the counter is at or above the floor and above each ticket; who has the whole weight has all numbers below it
@@ -41,7 +41,7 @@ pub record SeesCounter (v : View) (n : ℕ) (w : View) : Type 0 where
   pub above : All (λ x. x < n) v.tickets
   pub all : v.weight ≡ WEIGHT → EachOnceBelow n v.tickets
 
-abbrev pub look_tells : Step (Unit {0}) → Sitter → ℕ → Sitter → Type 0
+abbrev pub look_tells : Step (Unit {0}) → SeatState → ℕ → SeatState → Type 0
 look_tells st m n m' = (m'.1 ≡ m.1) × SeesCounter m.0 n m'.0
 
 -- the key's view is the one that was named
