@@ -1,3 +1,6 @@
 pub mod Tickets
 pub mod PairSteps
 pub mod Bursts
+pub mod Splits
+pub mod Gathers
+pub mod Rounds

@@ -75,7 +75,7 @@ pub(crate) fn work_each<M: CostModel, G: Gate, R: Threads + Sync>(
         crew,
         threads,
         &|i, seat: &mut MemoSeat<M>|
-            requires { (i < 64) × IsReady M.KIND memo.now base pairs.now seat.old }
+            requires { (i < 64) × IsPlanned memo.now cards.now × IsReady M.KIND memo.now base pairs.now seat.old }
             ensures { HasWorked M.KIND base pairs.entry.now seat.old seat.new }
         { work(memo, base, pairs, model, cards, gate, i as u32, seat) },
     );
