@@ -4,3 +4,5 @@ pub mod Bursts
 pub mod Splits
 pub mod Gathers
 pub mod Rounds
+pub mod Settles
+pub mod Levels

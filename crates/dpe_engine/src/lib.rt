@@ -4,6 +4,8 @@
 
 mod crew;
 mod gate;
+#[cfg(test)]
+mod tests;
 mod turn;
 mod worker;
 
