@@ -1,0 +1,103 @@
+-- What a round does to the main seat.
+use Rattle.std.specs.Prelude.{◌≡◌, ℕ, ◌+◌, ◌*◌, ◌≤◌, ◌<◌, ◌⊎◌, [], List, length, All, Contains, slice_index_or, sum_by}
+use Rattle.dpe_base.specs.declared.pair.Pair.{Pair}
+use Rattle.memo_table.specs.declared.TheConstants.{WEIGHT}
+use Rattle.memo_table.specs.Seats.{MemoTable, SeatView, IsSeatOf, BoundsAreMade}
+use Rattle.memo_table.specs.Views.{times, EachOnceBelow}
+use Rattle.dpe_engine.specs.Working.{past, IsDone, AreWorkable, IsReady, HasWorked}
+
+-- what a round asks of the main seat
+pub record MayTurn (kind : ℕ) (memo : MemoTable) (workers : ℕ) (group : List Pair) (s : SeatView) : Type 0 where
+  pub some : 1 ≤ workers
+  pub few : workers ≤ 64
+  pub seat : IsSeatOf memo s
+  pub weight : s.view.weight ≡ WEIGHT
+  pub allowance : workers * (length group + 1) ≤ s.view.allowance
+  pub workable : AreWorkable kind group s
+
+-- The tickets are the numbers below the base, the pairs and the workers, each once, and each pair is done
+pub record HasTurned (kind : ℕ) (memo : MemoTable) (base workers : ℕ) (group : List Pair) (before after : SeatView) : Type 0 where
+  pub seat : IsSeatOf memo after
+  pub weight : after.view.weight ≡ WEIGHT
+  pub began : EachOnceBelow base before.view.tickets
+  pub made : BoundsAreMade kind after.view
+  pub tickets : EachOnceBelow (base + length group + workers) after.view.tickets
+  pub allowance : after.view.allowance + length group + workers ≡ before.view.allowance
+  pub bounds : (b : ℕ × ℕ) → Contains before.view.bounds b → Contains after.view.bounds b
+  pub done : (p : Pair) → Contains group p → IsDone kind memo.query memo.pairs after.view.bounds p
+
+-- ---- the crew
+
+abbrev pub AreReady : ℕ → MemoTable → ℕ → List Pair → List SeatView → Type 0
+AreReady kind memo base group crew = All (IsReady kind memo base group) crew
+
+-- each seat is what its worker left
+pub record HaveWorked (kind base : ℕ) (group : List Pair) (before after : List SeatView) : Type 0 where
+  pub size : length after ≡ length before
+  pub each : (k : ℕ) (d : SeatView) → k < length before → HasWorked kind base group (slice_index_or before k d) (slice_index_or after k d)
+
+-- a seat that was split off for a worker
+pub record IsPart (memo : MemoTable) (before : SeatView) (draws : ℕ) (s : SeatView) : Type 0 where
+  pub seat : IsSeatOf memo s
+  pub floor : s.view.floor ≡ before.view.floor
+  pub weight : s.view.weight ≡ 1
+  pub tickets : s.view.tickets ≡ []
+  pub bounds : s.view.bounds ≡ before.view.bounds
+  pub allowance : s.view.allowance ≡ draws
+
+-- the main seat after the splits, and the crew
+pub record IsSplit (memo : MemoTable) (before after : SeatView) (crew : List SeatView) (workers draws : ℕ) : Type 0 where
+  pub seat : IsSeatOf memo after
+  pub bounds : after.view.bounds ≡ before.view.bounds
+  pub tickets : after.view.tickets ≡ before.view.tickets
+  pub floor : after.view.floor ≡ before.view.floor
+  pub weight : after.view.weight + workers ≡ before.view.weight
+  pub allowance : after.view.allowance + workers * draws ≡ before.view.allowance
+  pub size : length crew ≡ workers
+  pub each : All (IsPart memo before draws) crew
+
+-- ---- sums over the main seat and the crew
+
+abbrev pub weights : SeatView → List SeatView → ℕ
+weights s crew = s.view.weight + sum_by (λ (c : SeatView). c.view.weight) crew
+
+abbrev pub allowances : SeatView → List SeatView → ℕ
+allowances s crew = s.view.allowance + sum_by (λ (c : SeatView). c.view.allowance) crew
+
+abbrev pub all_drawn : SeatView → List SeatView → ℕ
+all_drawn s crew = length s.view.tickets + sum_by (λ (c : SeatView). length c.view.tickets) crew
+
+abbrev pub all_past : ℕ → SeatView → List SeatView → ℕ
+all_past end s crew = past end s.view.tickets + sum_by (λ (c : SeatView). past end c.view.tickets) crew
+
+abbrev pub all_times : ℕ → SeatView → List SeatView → ℕ
+all_times x s crew = times x s.view.tickets + sum_by (λ (c : SeatView). times x c.view.tickets) crew
+
+-- some seat of the crew has the bound
+pub record HasAmong (crew : List SeatView) (b : ℕ × ℕ) : Type 0 where
+  pub seat : SeatView
+  pub member : Contains crew seat
+  pub bound : Contains seat.view.bounds b
+
+-- the main seat took the crew in
+pub record IsGathered (memo : MemoTable) (before : SeatView) (crew : List SeatView) (after : SeatView) : Type 0 where
+  pub seat : IsSeatOf memo after
+  pub bounds : (b : ℕ × ℕ) → Contains before.view.bounds b → Contains after.view.bounds b
+  pub weight : after.view.weight ≡ weights before crew
+  pub allowance : after.view.allowance ≡ allowances before crew
+  pub counted : length after.view.tickets ≡ all_drawn before crew
+  pub taken : (b : ℕ × ℕ) → HasAmong crew b → Contains after.view.bounds b
+  pub drawn : (x : ℕ) → times x after.view.tickets ≡ all_times x before crew
+  pub passed : (end : ℕ) → past end after.view.tickets ≡ all_past end before crew
+
+-- part of the crew is taken in, and these are left
+pub record IsGathering (memo : MemoTable) (before : SeatView) (crew : List SeatView) (now : SeatView) (rest : List SeatView) : Type 0 where
+  pub seat : IsSeatOf memo now
+  pub left : All (IsSeatOf memo) rest
+  pub bounds : (b : ℕ × ℕ) → Contains before.view.bounds b → Contains now.view.bounds b
+  pub weight : weights now rest ≡ weights before crew
+  pub allowance : allowances now rest ≡ allowances before crew
+  pub counted : all_drawn now rest ≡ all_drawn before crew
+  pub taken : (b : ℕ × ℕ) → HasAmong crew b → Contains now.view.bounds b ⊎ HasAmong rest b
+  pub drawn : (x : ℕ) → all_times x now rest ≡ all_times x before crew
+  pub passed : (end : ℕ) → all_past end now rest ≡ all_past end before crew

@@ -1,0 +1,14 @@
+//! Rounds of workers over one shared memo. Each worker draws tickets, and works the pair of each: it loads the words of
+//! both sides, and offers the least word of their join.
+#![tactic(auto)]
+
+mod crew;
+mod gate;
+#[cfg(test)]
+mod tests;
+mod turn;
+mod worker;
+
+pub use gate::{Gate, OpenGate};
+pub use turn::round;
+pub use worker::{BURST, work};

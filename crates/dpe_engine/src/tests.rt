@@ -1,0 +1,134 @@
+ghost use Rattle.std.specs.Prelude.{◌≡◌, ◌≤◌, ◌+◌, ◌==◌, [], IfOk, filter, length, vec_capacity};
+ghost use Rattle.dpe_base.specs.Sets.{union, size};
+ghost use Rattle.dpe_engine.specs.Working.{IsPlanned};
+ghost use Rattle.dpe_engine.specs.Levels.{IsLevel};
+
+use crate::{OpenGate, round};
+use card_scaled::CardTable;
+use cost_model::Ops;
+use dpe_base::{Pair, Pred, Query, Rel};
+use join_graph::Graph;
+use memo_table::{Memo, MemoSeat};
+use pair_stream::{DpSub, collect_pairs};
+use std::alloc::{AllocError, Global};
+use std::test::Fail;
+use std::thread::Threads;
+
+// Four relations of one row each, in a chain.
+fn chain_of_ones(alloc: Global) -> Result<Query, Fail> {
+    let one = Rel {
+        rows: 1,
+        num: 1,
+        den: 1,
+    };
+    let first = Pred {
+        low: 0,
+        high: 1,
+        num: 1,
+        den: 1,
+    };
+    let second = Pred {
+        low: 1,
+        high: 2,
+        num: 1,
+        den: 1,
+    };
+    let third = Pred {
+        low: 2,
+        high: 3,
+        num: 1,
+        den: 1,
+    };
+    let rels = vec![in alloc; one, one, one, one]?;
+    let preds = vec![in alloc; first, second, third]?;
+    Ok(Query::new(rels, preds)?)
+}
+
+// The pairs whose union has so many relations.
+fn pairs_of_size(alloc: Global, pairs: &[Pair], count: u32) -> Result<Vec<Pair>, AllocError>
+    ensures { IfOk result (λ v. v.items ≡ filter (λ p. size (union p.a p.b) == count) pairs.now) }
+{
+    let mut few = Vec::new(alloc);
+    'pairs: for i in 0..pairs.len() {
+        let pair = pairs[i];
+        if pair.a.union(pair.b).len() == count {
+            few.push(pair)?;
+        }
+    }
+    Ok(few)
+}
+
+// Two workers work the pairs of one size of union.
+fn work_level<R: Threads + Sync>(
+    rt: &R,
+    memo: &Memo<Ops>,
+    count: u32,
+    group: &[Pair],
+    cards: &CardTable,
+    seat: &mut MemoSeat<Ops>,
+    crew: &mut Vec<MemoSeat<Ops>>,
+) -> u64
+    requires planned { IsPlanned memo.now cards.now }
+    requires level { IsLevel 0 memo.now count seat.old }
+    requires count { count ≤ 100 }
+    requires group { group.now ≡ filter (λ p. size (union p.a p.b) == count) memo.now.pairs }
+    requires few { length group.now ≤ 4 }
+    requires empty { crew.old.items ≡ [] }
+    requires room { 2 ≤ vec_capacity crew.old }
+    ensures level { IsLevel 0 memo.now (count + 1) seat.new }
+    ensures empty { crew.new.items ≡ [] }
+    ensures room { vec_capacity crew.new ≡ vec_capacity crew.old }
+{
+    round(rt, memo, 2, group, &Ops, cards, &OpenGate, seat, crew)
+}
+
+#[test]
+fn two_workers_work_a_chain_of_four(rt: HostRuntime) -> Result<(), Fail> {
+    let query = chain_of_ones(rt.alloc())?;
+    let _n = query.n();
+    let graph = Graph::of(&query);
+    let mut stream = DpSub::over(&graph);
+    let (memo, mut seat) = Memo::<Ops>::make(rt.alloc(), &query, &stream)?;
+    let cards = CardTable::make(rt.alloc(), &query)?;
+    let pairs = collect_pairs(rt.alloc(), &mut stream)?;
+    let mut crew = Vec::with_capacity(rt.alloc(), 2)?;
+    let twos = pairs_of_size(rt.alloc(), &pairs, 2)?;
+    let threes = pairs_of_size(rt.alloc(), &pairs, 3)?;
+    let fours = pairs_of_size(rt.alloc(), &pairs, 4)?;
+    assert_eq!(rt; twos.len(), 3);
+    assert_eq!(rt; threes.len(), 4);
+    assert_eq!(rt; fours.len(), 3);
+    let none = memo.drawn(&mut seat);
+    assert_eq!(rt; none, 0);
+    let first = work_level(&rt, &memo, 2, &twos, &cards, &mut seat, &mut crew);
+    let second = work_level(&rt, &memo, 3, &threes, &cards, &mut seat, &mut crew);
+    let third = work_level(&rt, &memo, 4, &fours, &cards, &mut seat, &mut crew);
+    assert_eq!(rt; (first, second, third), (0, 5, 11));
+    let words = memo.finish(seat);
+    // one ticket for each of ten pairs, and one past them for each worker in each round
+    assert_eq!(rt; words.drawn(), 16);
+    // each join costs two, by a loop with the lesser set left
+    assert_eq!(rt;
+        words.row(),
+        [
+            u64::MAX,
+            196_609,
+            196_610,
+            655_361,
+            196_612,
+            u64::MAX,
+            655_362,
+            1_179_649,
+            196_616,
+            u64::MAX,
+            u64::MAX,
+            u64::MAX,
+            655_364,
+            u64::MAX,
+            1_179_650,
+            1_703_937,
+        ]
+        .as_slice()
+    );
+    Ok(())
+}

@@ -1,0 +1,64 @@
+//! One round of all workers over a group of pairs.
+ghost use Rattle.std.specs.Prelude.{◌≡◌, ◌≤◌, [], vec_capacity};
+ghost use Rattle.dpe_engine.specs.Working.{IsPlanned};
+ghost use Rattle.dpe_engine.specs.Rounds.{MayTurn, HasTurned};
+
+use crate::crew::{gather, split_off, work_each};
+use crate::gate::Gate;
+use card_scaled::CardTable;
+use cost_model::CostModel;
+use dpe_base::Pair;
+use memo_table::{Memo, MemoSeat};
+use std::thread::Threads;
+
+/// A group with fewer pairs is worked in the calling thread.
+const NARROW: usize = 32;
+
+/// A group with as many pairs is worked in threads.
+const WIDE: usize = 16_384;
+
+// In how many threads a group is worked: to start them pays from about WIDE pairs on. The first group of a run that is
+// not narrow is worked in threads whatever its size.
+fn threads_for(workers: u32, pairs: usize, base: u64) -> usize
+    requires { 1 ≤ workers }
+    ensures { 1 ≤ result }
+{
+    if pairs >= WIDE || (pairs >= NARROW && base < NARROW as u64) {
+        workers as usize
+    } else {
+        1
+    }
+}
+
+/// All workers work the pairs, each with a seat of its own, which the main seat gives and takes in again. `crew` has
+/// room for these seats. It answers how many tickets were drawn before.
+///
+/// After it each pair's ticket was drawn once, and one ticket for each worker besides. For each pair the seat has a bound
+/// of the union that is at most the pair's least word, unless that is `EMPTY`. It takes no memory.
+pub fn round<M: CostModel, G: Gate, R: Threads + Sync>(
+    rt: &R,
+    memo: &Memo<M>,
+    workers: u32,
+    pairs: &[Pair],
+    model: &M,
+    cards: &CardTable,
+    gate: &G,
+    seat: &mut MemoSeat<M>,
+    crew: &mut Vec<MemoSeat<M>>,
+) -> u64
+    requires planned { IsPlanned memo.now cards.now }
+    requires may { MayTurn M.KIND memo.now workers pairs.now seat.old }
+    requires empty { crew.old.items ≡ [] }
+    requires room { workers ≤ vec_capacity crew.old }
+    ensures turned { HasTurned M.KIND memo.now result workers pairs.now seat.old seat.new }
+    ensures empty { crew.new.items ≡ [] }
+    ensures room { vec_capacity crew.new ≡ vec_capacity crew.old }
+{
+    let base = memo.drawn(seat);
+    split_off(memo, workers, pairs.len() as u64 + 1, seat, crew);
+    let threads = threads_for(workers, pairs.len(), base);
+    work_each(rt, memo, base, pairs, model, cards, gate, threads, crew.as_mut_slice());
+    gather(memo, seat, crew);
+    memo.drawn(seat);
+    base
+}
