@@ -34,9 +34,9 @@ kept_by f (x ∷ xs) p c e =
     subst F (sym (filter-append f (x ∷ []) xs))
     (⊎_elim
     (λ (one : Contains (x ∷ []) p). Contains-append_left (filter f (x ∷ [])) (filter f xs) p (⊎_elim
-        (λ (n : Contains [] p). let h : n.0 < 0 = n.1 in absurd (omega arith))
-        (λ (same : x ≡ p). let G : Pair → Type 0 = λ y. Contains (filter f (y ∷ [])) p in subst G (sym same) (here p e))
-        (Contains-push_cases [] x p one)))
+    (λ (n : Contains [] p). let h : n.0 < 0 = n.1 in absurd (omega arith))
+    (λ (same : x ≡ p). let G : Pair → Type 0 = λ y. Contains (filter f (y ∷ [])) p in subst G (sym same) (here p e))
+    (Contains-push_cases [] x p one)))
     (λ other. Contains-append_right (filter f (x ∷ [])) (filter f xs) p (kept_by f xs p other e))
     (Contains-append_cases (x ∷ []) xs p c))
   where
