@@ -1,5 +1,5 @@
 -- Rounds of two workers over the pairs of one size of union after another.
-use Rattle.std.proofs.Common.{◌≡◌, ℕ, suc, ◌+◌, ◌*◌, ◌^◌, ◌≤◌, ◌<◌, ◌==◌, Bool, true, List, [], ◌∷◌, ◌++◌, Contains, filter, length, refl, sym, subst, ap, ◌∙◌, arith, ⊎_elim, inl, inr, eq-eqb}
+use Rattle.std.proofs.Common.{◌≡◌, ℕ, ◌+◌, ◌≤◌, ◌<◌, ◌==◌, Bool, true, List, [], ◌∷◌, Contains, filter, length, refl, sym, subst, ap, ◌∙◌, arith, ⊎_elim, inl, inr, eq-eqb}
 use Rattle.std.proofs.lemmas.Bool.{cases_lt}
 use Rattle.std.proofs.lemmas.Bool.Decides.{nat_tests}
 use Rattle.std.proofs.lemmas.List.Elements.{All-contains, All-contains_itself, All-filter, filter_passes, filter-append, Contains-append_left, Contains-append_right, Contains-append_cases, Contains-push_cases}
@@ -17,7 +17,7 @@ use Rattle.memo_table.specs.declared.TheConstants.{WEIGHT, DRAWS}
 use Rattle.memo_table.specs.declared.view.View.{View}
 use Rattle.memo_table.specs.Seats.{MemoTable, SeatView, IsSeatOf, BoundsAreMade, Settled}
 use Rattle.memo_table.specs.Views.{with_floor}
-use Rattle.dpe_engine.specs.Working.{IsPlanned, IsDone, AreWorkable}
+use Rattle.dpe_engine.specs.Working.{IsPlanned}
 use Rattle.dpe_engine.specs.Rounds.{MayTurn, HasTurned}
 use Rattle.dpe_engine.specs.Levels.{IsLevel}
 use Rattle.dpe_engine.proofs.PairSteps.{stays_settled}
@@ -34,9 +34,9 @@ kept_by f (x ∷ xs) p c e =
     subst F (sym (filter-append f (x ∷ []) xs))
     (⊎_elim
     (λ (one : Contains (x ∷ []) p). Contains-append_left (filter f (x ∷ [])) (filter f xs) p (⊎_elim
-        (λ (n : Contains [] p). let h : n.0 < 0 = n.1 in absurd (omega arith))
-        (λ (same : x ≡ p). let G : Pair → Type 0 = λ y. Contains (filter f (y ∷ [])) p in subst G (sym same) (here p e))
-        (Contains-push_cases [] x p one)))
+    (λ (n : Contains [] p). let h : n.0 < 0 = n.1 in absurd (omega arith))
+    (λ (same : x ≡ p). let G : Pair → Type 0 = λ y. Contains (filter f (y ∷ [])) p in subst G (sym same) (here p e))
+    (Contains-push_cases [] x p one)))
     (λ other. Contains-append_right (filter f (x ∷ [])) (filter f xs) p (kept_by f xs p other e))
     (Contains-append_cases (x ∷ []) xs p c))
   where

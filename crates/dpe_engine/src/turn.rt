@@ -57,7 +57,17 @@ pub fn round<M: CostModel, G: Gate, R: Threads + Sync>(
     let base = memo.drawn(seat);
     split_off(memo, workers, pairs.len() as u64 + 1, seat, crew);
     let threads = threads_for(workers, pairs.len(), base);
-    work_each(rt, memo, base, pairs, model, cards, gate, threads, crew.as_mut_slice());
+    work_each(
+        rt,
+        memo,
+        base,
+        pairs,
+        model,
+        cards,
+        gate,
+        threads,
+        crew.as_mut_slice(),
+    );
     gather(memo, seat, crew);
     memo.drawn(seat);
     base
