@@ -1,18 +1,18 @@
 -- A worker on its way.
-use Rattle.std.proofs.Common.{◌≡◌, ◌≢◌, ℕ, zero, suc, ◌+◌, ◌-◌, ◌<◌, ◌≤◌, ◌==◌, Bool, true, false, cond, List, [], ◌∷◌, ◌++◌, All, Contains, length, get_or, drop, sym, refl, ap, ◌∙◌, subst, arith, ◌⊎◌, inl, inr, ⊎_elim, append_assoc, append-nil, length-append}
+use Rattle.std.proofs.Common.{◌≡◌, ◌≢◌, ℕ, zero, suc, ◌+◌, ◌-◌, ◌<◌, ◌≤◌, ◌==◌, Bool, true, false, List, [], ◌∷◌, ◌++◌, All, Contains, length, get_or, drop, sym, refl, ap, ◌∙◌, subst, arith, ◌⊎◌, inl, inr, ⊎_elim, append_assoc, append-nil, length-append}
 use mathlib.Core.Logic.{dite}
 use native.Mathlib.Decide.{ℕ_discrete}
 use Rattle.std.proofs.lemmas.Bool.Decides.{nat_tests}
 use Rattle.std.proofs.lemmas.List.{drop_more}
-use Rattle.std.proofs.lemmas.List.Elements.{All-contains, Contains-get_or, Contains-append_left, Contains-append_right, Contains-append_cases, Contains-push, Contains-push_cases}
+use Rattle.std.proofs.lemmas.List.Elements.{All-contains, Contains-append_left, Contains-append_right, Contains-append_cases, Contains-push, Contains-push_cases}
 use Rattle.dpe_base.specs.declared.pair.Pair.{Pair}
 use Rattle.dpe_base.specs.Queries.{JoinQuery}
 use Rattle.memo_table.specs.declared.view.View.{View}
 use Rattle.memo_table.specs.Seats.{MemoTable, SeatView, IsSeatOf, Settled}
-use Rattle.memo_table.specs.Views.{times, with_ticket}
+use Rattle.memo_table.specs.Views.{with_ticket}
 use Rattle.memo_table.proofs.Counting.{times-append}
-use Rattle.dpe_engine.specs.Working.{past, IsBounded, IsDone, IsReady, HasDrawn, HasWorked, HasWorkedPair, IsWorking}
-use Rattle.dpe_engine.proofs.Tickets.{past-append, times_one, times_other, past_one, past_none}
+use Rattle.dpe_engine.specs.Working.{IsBounded, IsDone, IsReady, HasDrawn, HasWorked, HasWorkedPair, IsWorking}
+use Rattle.dpe_engine.proofs.Tickets.{past-append, times_other, past_one, past_none}
 use Rattle.dpe_engine.proofs.PairSteps.{stays_settled}
 
 pub get_any : {A : Type 0} (xs : List A) (k : ℕ) (c d : A) → k < length xs → get_or xs k c ≡ get_or xs k d

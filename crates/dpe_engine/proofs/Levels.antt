@@ -1,5 +1,5 @@
 -- Rounds of two workers over the pairs of one size of union after another.
-use Rattle.std.proofs.Common.{◌≡◌, ℕ, suc, ◌+◌, ◌*◌, ◌^◌, ◌≤◌, ◌<◌, ◌==◌, Bool, true, List, [], ◌∷◌, ◌++◌, Contains, filter, length, refl, sym, subst, ap, ◌∙◌, arith, ⊎_elim, inl, inr, eq-eqb}
+use Rattle.std.proofs.Common.{◌≡◌, ℕ, ◌+◌, ◌≤◌, ◌<◌, ◌==◌, Bool, true, List, [], ◌∷◌, Contains, filter, length, refl, sym, subst, ap, ◌∙◌, arith, ⊎_elim, inl, inr, eq-eqb}
 use Rattle.std.proofs.lemmas.Bool.{cases_lt}
 use Rattle.std.proofs.lemmas.Bool.Decides.{nat_tests}
 use Rattle.std.proofs.lemmas.List.Elements.{All-contains, All-contains_itself, All-filter, filter_passes, filter-append, Contains-append_left, Contains-append_right, Contains-append_cases, Contains-push_cases}
@@ -17,7 +17,7 @@ use Rattle.memo_table.specs.declared.TheConstants.{WEIGHT, DRAWS}
 use Rattle.memo_table.specs.declared.view.View.{View}
 use Rattle.memo_table.specs.Seats.{MemoTable, SeatView, IsSeatOf, BoundsAreMade, Settled}
 use Rattle.memo_table.specs.Views.{with_floor}
-use Rattle.dpe_engine.specs.Working.{IsPlanned, IsDone, AreWorkable}
+use Rattle.dpe_engine.specs.Working.{IsPlanned}
 use Rattle.dpe_engine.specs.Rounds.{MayTurn, HasTurned}
 use Rattle.dpe_engine.specs.Levels.{IsLevel}
 use Rattle.dpe_engine.proofs.PairSteps.{stays_settled}

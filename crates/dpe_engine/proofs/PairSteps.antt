@@ -1,9 +1,9 @@
 -- One pair is worked.
-use Rattle.std.proofs.Common.{◌≡◌, ◌≢◌, ℕ, ◌+◌, ◌<◌, ◌≤◌, ◌⊎◌, Bool, cond, List, [], ◌∷◌, Contains, sym, refl, ap, ◌∙◌, subst, arith, inl, inr, ⊎_elim, eq-eqb, ne_eqb, le_refl, append-nil}
+use Rattle.std.proofs.Common.{◌≡◌, ◌≢◌, ℕ, ◌<◌, ◌≤◌, ◌⊎◌, Bool, cond, List, [], ◌∷◌, Contains, sym, refl, ap, ◌∙◌, subst, arith, inl, inr, ⊎_elim, eq-eqb, ne_eqb, le_refl, append-nil}
 use mathlib.Core.Logic.{dite}
 use native.Mathlib.Decide.{ℕ_discrete}
-use Rattle.std.proofs.lemmas.List.Elements.{Contains-append_left, Contains-append_right}
-use Rattle.dpe_base.specs.declared.TheConstants.{EMPTY, SPAN, N_MAX}
+use Rattle.std.proofs.lemmas.List.Elements.{Contains-append_right}
+use Rattle.dpe_base.specs.declared.TheConstants.{EMPTY, SPAN}
 use Rattle.dpe_base.specs.declared.pair.Pair.{Pair}
 use Rattle.dpe_base.specs.Queries.{JoinQuery, relations, IsQuery}
 use Rattle.dpe_base.specs.Sets.{Within, full, union}
@@ -12,11 +12,11 @@ use Rattle.dpe_base.proofs.SizeLaws.{within_span, union_some}
 use Rattle.join_graph.specs.Graphs.{Pairs, graph_of}
 use Rattle.card_scaled.specs.Cards.{rows}
 use Rattle.cost_model.specs.Words.{best_word}
-use Rattle.join_tree.specs.Trees.{Made, Least, LeastOfPair, pair_word}
+use Rattle.join_tree.specs.Trees.{Made, Least, pair_word}
 use Rattle.memo_table.specs.declared.view.View.{View}
 use Rattle.memo_table.specs.Seats.{SeatView, Settled}
 use Rattle.memo_table.specs.Views.{with_bound, with_offer}
-use Rattle.dpe_engine.specs.Working.{IsBounded, IsDone, HasDrawn, HasWorkedPair}
+use Rattle.dpe_engine.specs.Working.{HasWorkedPair}
 
 -- what a pair of the query keeps
 pub record IsPairOf (q : JoinQuery) (p : Pair) : Type 0 where

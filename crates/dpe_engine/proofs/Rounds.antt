@@ -1,5 +1,5 @@
 -- A whole round.
-use Rattle.std.proofs.Common.{◌≡◌, ℕ, ◌+◌, ◌*◌, ◌<◌, ◌≤◌, List, [], ◌++◌, All, Contains, length, get_or, take, sym, ap, ◌∙◌, subst, arith, sum_by}
+use Rattle.std.proofs.Common.{◌≡◌, ℕ, ◌+◌, ◌*◌, ◌<◌, ◌≤◌, List, ◌++◌, All, Contains, length, get_or, take, sym, ap, ◌∙◌, subst, arith, sum_by}
 use Rattle.std.proofs.Math.Seq.{take-append_seam}
 use Rattle.std.proofs.lemmas.List.Elements.{All-get_or, All-from_get_or, Contains-get_or}
 use Rattle.dpe_base.specs.declared.pair.Pair.{Pair}
@@ -11,7 +11,7 @@ use Rattle.memo_table.specs.Views.{times, EachOnceBelow, with_floor}
 use Rattle.dpe_engine.specs.Working.{past, IsDone}
 use Rattle.dpe_engine.specs.Rounds.{IsPart, IsSplit, IsGathered, HaveWorked, MayTurn, HasTurned}
 use Rattle.dpe_engine.proofs.Tickets.{past_is, once_in, once_out, sum_fixed, sum_both, some_positive}
-use Rattle.dpe_engine.proofs.Bursts.{more_done, get_any}
+use Rattle.dpe_engine.proofs.Bursts.{more_done}
 
 same_done : (kind : ℕ) (q q' : JoinQuery) (l l' : List Pair) (bs : List (ℕ × ℕ)) (p : Pair) → q ≡ q' → l ≡ l' → IsDone kind q l bs p → IsDone kind q' l' bs p
 same_done kind q q' l l' bs p e f d =

@@ -1,5 +1,5 @@
 -- Seats are split off, one for each worker.
-use Rattle.std.proofs.Common.{◌≡◌, ℕ, suc, ◌+◌, ◌*◌, ◌<◌, ◌≤◌, List, [], ◌∷◌, ◌++◌, All, Contains, length, refl, ap, ◌∙◌, sym, subst, arith, length-append, mul-le-mul_right, suc-mul}
+use Rattle.std.proofs.Common.{◌≡◌, ℕ, suc, ◌+◌, ◌*◌, ◌<◌, ◌≤◌, List, [], ◌∷◌, ◌++◌, Contains, length, refl, ap, ◌∙◌, sym, subst, arith, length-append, mul-le-mul_right, suc-mul}
 use Rattle.std.proofs.lemmas.List.Elements.{All-nil, All-push, All-weaker}
 use Rattle.dpe_base.specs.declared.pair.Pair.{Pair}
 use Rattle.memo_table.specs.declared.view.View.{View}

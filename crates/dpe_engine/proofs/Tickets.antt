@@ -1,5 +1,5 @@
 -- How many tickets of a list are past an end, and how often one stands in it.
-use Rattle.std.proofs.Common.{◌≡◌, ◌≢◌, ℕ, zero, suc, ◌+◌, ◌*◌, ◌<◌, ◌≤◌, ◌==◌, suc-mul, nat_le, nat_lt, min, cond, List, [], ◌∷◌, ◌++◌, length, get_or, sum_by, count_by, sym, refl, ap, ◌∙◌, arith}
+use Rattle.std.proofs.Common.{◌≡◌, ◌≢◌, ℕ, zero, suc, ◌+◌, ◌*◌, ◌<◌, ◌≤◌, ◌==◌, suc-mul, nat_le, nat_lt, min, cond, List, [], ◌∷◌, ◌++◌, length, get_or, sum_by, count_by, sym, refl, ◌∙◌, arith}
 use mathlib.Core.Logic.{dite}
 use native.Mathlib.Decide.{ℕ_discrete}
 use Rattle.std.proofs.lemmas.Bool.Decides.{nat_tests}

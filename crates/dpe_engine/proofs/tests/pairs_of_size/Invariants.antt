@@ -1,4 +1,4 @@
-use Rattle.std.proofs.Common.{◌≡◌, ◌==◌, filter, take}
+use Rattle.std.proofs.Common.{◌≡◌, filter, take}
 use Rattle.dpe_engine.proofs.Levels.{has_size}
 use Rattle.dpe_engine.proofs.tests.pairs_of_size.Given as goal
 

@@ -1,4 +1,4 @@
-use Rattle.std.proofs.Common.{◌≡◌, ◌≢◌, ◌⊎◌, Contains, ℕ, sym, subst, ap, ◌∙◌, arith, ⊎_elim, inl, inr}
+use Rattle.std.proofs.Common.{◌≡◌, ◌⊎◌, Contains, ℕ, sym, subst, ap, ◌∙◌}
 use Rattle.dpe_base.specs.declared.TheConstants.{EMPTY}
 use Rattle.dpe_base.specs.Sets.{union}
 use Rattle.card_scaled.specs.Cards.{rows}
