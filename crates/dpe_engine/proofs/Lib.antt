@@ -6,3 +6,4 @@ pub mod Gathers
 pub mod Rounds
 pub mod Settles
 pub mod Levels
+pub mod Places
