@@ -1,7 +1,6 @@
 -- From group to group of a buffer.
-use Rattle.std.proofs.Common.{◌≡◌, ℕ, ◌+◌, ◌*◌, ◌^◌, ◌<◌, ◌≤◌, ◌⊎◌, inl, inr, ⊎_elim, List, [], ◌∷◌, ◌++◌, Contains, length, get_or, sym, ap, ◌∙◌, subst, arith, length-append, append-nil, append_assoc, mul-le-mul_right, mul-add}
+use Rattle.std.proofs.Common.{◌≡◌, ℕ, ◌+◌, ◌*◌, ◌^◌, ◌<◌, ◌≤◌, inl, inr, ⊎_elim, List, ◌∷◌, ◌++◌, Contains, length, get_or, sym, ap, ◌∙◌, subst, arith, length-append, append-nil, append_assoc, mul-le-mul_right, mul-add}
 use Rattle.std.proofs.lemmas.List.Elements.{Contains-get_or, Contains-append_left, Contains-append_right, Contains-append_cases}
-use Rattle.dpe_base.specs.declared.TheConstants.{N_MAX}
 use Rattle.dpe_base.specs.declared.pair.Pair.{Pair}
 use Rattle.dpe_base.specs.Queries.{JoinQuery, relations}
 use Rattle.dpe_base.specs.Sets.{union, single, size}
@@ -9,13 +8,11 @@ use Rattle.card_scaled.specs.Cards.{RowTable}
 use Rattle.pair_stream.specs.Orders.{BuildsSide}
 use Rattle.join_tree.specs.BuiltLists.{IsBuilt, IsWorkable}
 use Rattle.join_tree.proofs.BuiltLists.{built_lists_are_workable}
-use Rattle.memo_table.specs.declared.TheConstants.{DRAWS}
 use Rattle.memo_table.specs.Seats.{MemoTable, SeatView, Settled}
 use Rattle.memo_table.specs.Views.{EachOnceBelow}
 use Rattle.reorder_buffer.specs.declared.TheConstants.{SIZES}
 use Rattle.reorder_buffer.specs.Buffers.{AreSmall}
 use Rattle.reorder_buffer.specs.Groups.{union_size, group_of, groups_below}
-use Rattle.dpe_engine.specs.Working.{IsDone}
 use Rattle.dpe_engine.specs.Rounds.{MayTurn, HasTurned}
 use Rattle.dpe_engine.specs.Between.{below, IsBetween, IsShared}
 use Rattle.dpe_engine.proofs.PairSteps.{stays_settled}

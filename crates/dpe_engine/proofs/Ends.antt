@@ -1,5 +1,5 @@
 -- The beginning and the end of a run: the first seat, and the words.
-use Rattle.std.proofs.Common.{◌≡◌, ℕ, zero, ◌+◌, ◌*◌, ◌<◌, ◌≤◌, ◌⊎◌, List, [], Contains, length, refl, sym, ap, ◌∙◌, subst, arith}
+use Rattle.std.proofs.Common.{◌≡◌, ℕ, zero, ◌+◌, ◌*◌, ◌<◌, ◌≤◌, List, [], Contains, length, refl, sym, ap, ◌∙◌, subst, arith}
 use Rattle.std.proofs.lemmas.Bool.Decides.{nat_tests}
 use Rattle.dpe_base.specs.declared.pair.Pair.{Pair}
 use Rattle.dpe_base.specs.Queries.{JoinQuery, relations, IsQuery}
@@ -14,9 +14,8 @@ use Rattle.memo_table.specs.declared.view.View.{View}
 use Rattle.memo_table.specs.Finishing.{IsLeastBound}
 use Rattle.memo_table.specs.Seats.{MemoTable, SeatView, IsSeatOf, BoundsAreMade, Settled}
 use Rattle.memo_table.specs.Views.{EachOnceBelow, once_below, with_floor}
-use Rattle.reorder_buffer.specs.Buffers.{BufferedPairs}
 use Rattle.dpe_engine.specs.Engines.{IsLeastWord}
-use Rattle.dpe_engine.specs.Between.{IsBetween, IsShared, HasFreeCrew, IsPrepared}
+use Rattle.dpe_engine.specs.Between.{IsBetween, IsShared}
 use Rattle.dpe_engine.proofs.PairSteps.{stays_settled}
 use Rattle.dpe_engine.proofs.Settles.{built_settled}
 use Rattle.dpe_engine.proofs.Advances.{workable}

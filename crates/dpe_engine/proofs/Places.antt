@@ -1,11 +1,11 @@
 -- Where pairs stand in an ordered list, how many a list can have, and those of smaller unions.
-use Rattle.std.proofs.Common.{◌≡◌, ◌≢◌, ◌↔◌, ℕ, zero, suc, ◌+◌, ◌*◌, ◌/◌, ◌%◌, ◌^◌, ◌<◌, ◌≤◌, ◌==◌, ◌⊎◌, inl, inr, nat_lt, Bool, true, false, cond, List, [], ◌∷◌, ◌++◌, All, AllPairs, Contains, filter, map, length, get_or, eqb, refl, sym, subst, ap, ◌∙◌, arith, zero-add, add-mul, mul-le-mul, mul-le-mul_right, eq-eqb, eqb-true}
+use Rattle.std.proofs.Common.{◌≡◌, ◌≢◌, ◌↔◌, ℕ, ◌+◌, ◌*◌, ◌/◌, ◌%◌, ◌^◌, ◌<◌, ◌≤◌, ◌==◌, inl, inr, nat_lt, Bool, true, false, cond, List, [], ◌∷◌, ◌++◌, All, AllPairs, Contains, map, length, get_or, eqb, refl, sym, subst, ap, ◌∙◌, arith, zero-add, add-mul, mul-le-mul, mul-le-mul_right, eq-eqb, eqb-true}
 use Rattle.std.specs.List.{list_any}
 use Rattle.std.proofs.lemmas.Bool.{cases_lt}
 use Rattle.std.proofs.lemmas.Bool.Decides.{nat_tests, Decides-eqb}
 use Rattle.std.proofs.lemmas.Nat.{mul-pow, div-mul-add, mod-mul-add}
 use Rattle.std.proofs.Math.Pow.{pow_mono}
-use Rattle.std.proofs.lemmas.List.{length-map, get_or_append_left, get_or-append-add}
+use Rattle.std.proofs.lemmas.List.{length-map, get_or_append_left}
 use Rattle.std.proofs.lemmas.List.Elements.{All-head, All-tail, Contains-append_left, Contains-append_right, Contains-append_cases}
 use Rattle.std.proofs.lemmas.Map.Made.{IsDistinct-from_AllPairs}
 use Rattle.std.proofs.lemmas.Map.Views.{Contains-from_any}
@@ -14,7 +14,7 @@ use Rattle.dpe_base.specs.declared.TheConstants.{N_MAX}
 use Rattle.dpe_base.specs.declared.pair.Pair.{Pair}
 use Rattle.dpe_base.specs.Queries.{JoinQuery, relations, IsQuery}
 use Rattle.dpe_base.proofs.SizeLaws.{full_below}
-use Rattle.join_graph.specs.Graphs.{JoinGraph, Pairs, graph_of}
+use Rattle.join_graph.specs.Graphs.{graph_of}
 use Rattle.join_tree.specs.Trees.{Builds}
 use Rattle.pair_stream.specs.Orders.{StandsAt, Once, BuildsSide, Ordered}
 use Rattle.pair_stream.proofs.Lists.{contains_none, contains_cases, contains_filter, contains_from_filter, passes_from_filter, contains_from_map, pairs_map}

@@ -1,6 +1,5 @@
-use Rattle.std.proofs.Common.{arith, List, ◌≤◌, take, length, sym, ◌∙◌, subst}
+use Rattle.std.proofs.Common.{arith, List, take, sym, ◌∙◌, subst}
 use Rattle.dpe_base.specs.declared.pair.Pair.{Pair}
-use Rattle.reorder_buffer.specs.Groups.{group_of}
 use Rattle.dpe_engine.specs.Rounds.{MayTurn, HasTurned}
 use Rattle.dpe_engine.proofs.Advances.{may_turn, after_turn, no_turn, next_group}
 use Rattle.dpe_engine.proofs.Members.{turned_some, turned_none}

@@ -1,4 +1,4 @@
-use Rattle.std.proofs.Common.{arith, ◌≡◌, ◌+◌, ℕ, length, sym, subst, vec_capacity}
+use Rattle.std.proofs.Common.{arith, ◌≡◌, ◌+◌, ℕ, length, subst, vec_capacity}
 use Rattle.dpe_engine.specs.Between.{IsRunning}
 use Rattle.dpe_engine.proofs.Runs.{goes_on}
 use Rattle.dpe_engine.proofs.steps.step.Goals as goal
