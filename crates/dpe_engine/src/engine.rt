@@ -37,6 +37,7 @@ pub struct Solved {
 
 /// An engine before its run: it has all memory that the run needs. Contracts see its query, the pairs that will be
 /// worked, how many of them a buffer holds, and how many workers there are.
+#[derive(Drop)]
 pub struct Engine<M: CostModel> {
     shared: Shared<M>,
     first: Buffer,
@@ -122,7 +123,11 @@ fn work_last_buffer<P: PairStream, M: CostModel, G: Gate, R: Threads + Sync>(
 
 impl<M: CostModel> Engine<M> {
     /// An engine for the pairs that the stream has left. The stream is only named: no pair is taken from it. Each pair
-    /// stands after the pairs that build its sides. It takes all memory that `run` needs.
+    /// is a csg-cmp-pair of the query, and stands after the pairs that build its sides.
+    ///
+    /// `buffer` is how many pairs are taken at once, 1 to `ROOM_MAX`, and `workers` how many seats work a group, 1 to 64.
+    /// It takes all memory that `run` needs: the memo's word and the rows of each set, two buffers, and a seat for each
+    /// worker. Where there is not as much, it is an `AllocError`.
     pub fn prepare<P: PairStream>(
         alloc: Global,
         query: &Query,
@@ -159,9 +164,19 @@ impl<M: CostModel> Engine<M> {
         })
     }
 
-    /// Works all pairs of the stream, and hands the stream back. The groups of a buffer are worked by ascending size of
-    /// union, each by all workers. While a full buffer is worked the next one is filled: in another thread, or before
-    /// it where there is one worker.
+    /// Works all pairs of the stream, and hands the stream back.
+    ///
+    /// It reorders the pairs by what they depend on, after Han and Lee, "Dependency-Aware Reordering for Parallelizing
+    /// Query Optimization in Multi-Core CPUs", SIGMOD 2009. An enumerator gives the pairs that build a side before each
+    /// pair that uses it, but often just before, so neighbours can't be worked at once. The pairs of a buffer are
+    /// therefore taken by groups: those of one size of union, by ascending size. No pair of a group builds a side of
+    /// another, and all that builds its sides was worked in an earlier buffer or a smaller group. Each group that has a
+    /// pair is one round of all workers.
+    ///
+    /// While a full buffer is worked the next one is filled: in a thread of its own, or, where there is one worker, before
+    /// it in the calling thread. After a fill that took less than a buffer holds none follows. The workers of a round go
+    /// in threads of their own where the group is large enough to pay for them, and else one after the other in the
+    /// calling thread.
     ///
     /// The gate is told of each buffer before it is filled, and of each draw. It takes no memory.
     pub fn run<P: PairStream, G: Gate, R: Threads + Sync>(
