@@ -1,3 +1,5 @@
 pub mod Working
 pub mod Rounds
 pub mod Levels
+pub mod Engines
+pub mod Between
