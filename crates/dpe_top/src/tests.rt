@@ -1,6 +1,8 @@
 mod files;
+mod hostile;
 mod plans;
 mod refusals;
+mod sizes;
 
 use crate::{OpenGate, Status, dpe};
 use io_edge::{MemSink, MemSource};
