@@ -40,7 +40,8 @@ fn chain_of_four_by_buffers_of_three(rt: HostRuntime) -> Result<(), Fail> {
     Ok(())
 }
 
-// Whether four runs over the query work so many pairs each, and end in the same words.
+// Whether four runs over the query work so many pairs each, and end in the same words. `small` is the buffer of many
+// workers, who start a thread for each buffer.
 fn is_same_for_all<R: Threads + Sync>(
     rt: &R,
     alloc: Global,
@@ -52,7 +53,7 @@ fn is_same_for_all<R: Threads + Sync>(
 {
     let first = open_run(rt, alloc, query, ROOM_MAX, 1)?;
     let second = open_run(rt, alloc, query, ROOM_MAX, 64)?;
-    let third = open_run(rt, alloc, query, small, 1)?;
+    let third = open_run(rt, alloc, query, 1, 1)?;
     let fourth = open_run(rt, alloc, query, small, 64)?;
     'runs: for solved in [&first, &second, &third, &fourth] {
         if solved.pairs != pairs || solved.words.row() != first.words.row() {
@@ -76,7 +77,6 @@ fn same_words_of_a_cycle_of_sixteen(rt: HostRuntime) -> Result<(), Fail> {
     Ok(())
 }
 
-// A buffer of one pair would start a thread for each of the pairs.
 #[test]
 fn same_words_of_a_star_of_sixteen(rt: HostRuntime) -> Result<(), Fail> {
     let query = query_of_ones(rt.alloc(), Shape::Star, 16)?;
