@@ -1,3 +1,4 @@
 pub mod Working
 pub mod Rounds
 pub mod Levels
+pub mod Engines

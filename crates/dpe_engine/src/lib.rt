@@ -3,12 +3,15 @@
 #![tactic(auto)]
 
 mod crew;
+mod engine;
 mod gate;
 #[cfg(test)]
 mod tests;
 mod turn;
 mod worker;
 
+pub use engine::{Engine, Solved};
 pub use gate::{Gate, OpenGate};
+pub use memo_table::Words;
 pub use turn::round;
 pub use worker::{BURST, work};
