@@ -16,3 +16,7 @@ pub record EnginePlan : Type 0 where
 pub record IsLeastWord (kind : ℕ) (q : JoinQuery) (pairs : List Pair) (s w : ℕ) : Type 0 where
   pub least : (v : ℕ) → Made kind q pairs s v → Least kind q pairs s w
   pub none : ((v : ℕ) → Made kind q pairs s v → ⊥) → w ≡ EMPTY
+
+-- nothing is an engine, which only the engine's own proof unfolds
+unfoldable pub Never : Type 0
+Never = ⊥

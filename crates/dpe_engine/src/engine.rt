@@ -26,25 +26,22 @@ pub struct Solved {
     pub rounds: u64,
 }
 
-#[derive(Drop)]
-enum Never {}
-
 /// An engine.
 #[derive(Drop)]
 pub struct Engine<M: CostModel> {
     model: M,
-    never: Never,
+    solved: Solved,
 }
 
 impl<M: CostModel> Model for Engine<M> {
     ghost use Rattle.std.specs.Prelude.{[]};
-    ghost use Rattle.dpe_engine.specs.Engines.{EnginePlan};
+    ghost use Rattle.dpe_engine.specs.Engines.{EnginePlan, Never};
 
     ghost Value = { EnginePlan };
 
     ghost view = { λ _. record { query = record { rels = []; preds = [] }; pairs = []; buffer = 0; workers = 0 } };
 
-    ghost invariant = { λ _. ⊥ };
+    ghost invariant = { λ _. Never };
 }
 
 impl<M: CostModel> Engine<M> {
@@ -65,6 +62,7 @@ impl<M: CostModel> Engine<M> {
         Err(AllocError)
     }
 
+    #[tactic(auto, unfolding(crate::specs::Engines::Never))]
     pub fn run<P: PairStream, G: Gate, R: Threads + Sync>(
         self,
         _rt: &R,
@@ -81,6 +79,7 @@ impl<M: CostModel> Engine<M> {
         ensures ended { IsTrue (P.ended result.1) }
         ensures total { P.total result.1 ≡ P.total stream }
     {
-        match self.never {}
+        let Engine { solved, .. } = self;
+        (solved, stream)
     }
 }
