@@ -34,12 +34,11 @@ pub struct Engine<M: CostModel> {
 }
 
 impl<M: CostModel> Model for Engine<M> {
-    ghost use Rattle.std.specs.Prelude.{[]};
-    ghost use Rattle.dpe_engine.specs.Engines.{EnginePlan, Never};
+    ghost use Rattle.dpe_engine.specs.Engines.{EnginePlan, Never, some_plan};
 
     ghost Value = { EnginePlan };
 
-    ghost view = { λ _. record { query = record { rels = []; preds = [] }; pairs = []; buffer = 0; workers = 0 } };
+    ghost view = { λ _. some_plan };
 
     ghost invariant = { λ _. Never };
 }
@@ -62,7 +61,6 @@ impl<M: CostModel> Engine<M> {
         Err(AllocError)
     }
 
-    #[tactic(auto, unfolding(crate::specs::Engines::Never))]
     pub fn run<P: PairStream, G: Gate, R: Threads + Sync>(
         self,
         _rt: &R,
