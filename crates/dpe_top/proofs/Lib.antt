@@ -2,3 +2,4 @@ pub mod PairCount
 pub mod Planning
 pub mod Plans
 pub mod Reporting
+pub mod BestWords

@@ -4,6 +4,7 @@
 mod call;
 mod gate;
 mod lines;
+mod plan;
 mod planner;
 mod reply;
 mod report;

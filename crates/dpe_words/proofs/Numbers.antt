@@ -7,7 +7,8 @@ use Rattle.std.specs.Str.Parse.{ParsesUnsigned, digits_value}
 use Rattle.std.proofs.lemmas.Str.Parse.{IsNumeralModel, numerals_by_value, parse_digits}
 use Rattle.std.proofs.lemmas.Bool.{le-leb, lt-leb}
 use Rattle.std.proofs.lemmas.Bool.Decides.{nat_tests}
-use Rattle.dpe_words.specs.Values.{from_to, written_number}
+use Rattle.dpe_words.specs.Values.{from_to, number_in, value_or, written_number}
+use Rattle.clap.specs.Words.{Text}
 
 decimal_numerals : IsNumeralModel (λ ds. list_all is_ascii_digit ds ≡ true) (digits_value 10)
 decimal_numerals = numerals_by_value _ (search rules)
@@ -39,3 +40,13 @@ no_digits t e = grind (arith, nat_tests)
 pub narrowed : (o : Option ℕ) (low high : ℕ) → high < 2 ^ 64 → from_to low high (from_to 0 (2 ^ 64 - 1) o) ≡ from_to low high o
 narrowed None low high h = refl
 narrowed (Some n) low high h = grind (arith, nat_tests)
+
+-- what a range lets through lies in it
+from_range : (low high n : ℕ) (o : Option ℕ) → Some n ≡ from_to low high o → (low ≤ n) × (n ≤ high)
+from_range low high n None e = cc
+from_range low high n (Some m) e = grind (arith, nat_tests)
+
+-- and so does a default that lies in it
+pub in_range : (low high default n : ℕ) (t : Option Text) → low ≤ default → default ≤ high → Some n ≡ value_or default (number_in low high) t → (low ≤ n) × (n ≤ high)
+in_range low high default n None l h e = grind arith
+in_range low high default n (Some word) l h e = from_range low high n (written_number word) e

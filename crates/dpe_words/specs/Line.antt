@@ -1,5 +1,5 @@
 -- What the words of a command line say.
-use Rattle.std.specs.Prelude.{◌≡◌, ◌^◌, ◌-◌, List, false, if◌then◌else◌, Option, Some, None, Result, Ok, Err, IsSome, codes, string_bytes, map, String, option_map}
+use Rattle.std.specs.Prelude.{◌≡◌, ◌^◌, ◌-◌, ◌≤◌, List, false, if◌then◌else◌, Option, Some, None, Result, Ok, Err, IsSome, codes, string_bytes, map, String, option_map}
 use Rattle.std.specs.declared.alloc.Global.{Global}
 use Rattle.clap.specs.Words.{Text, first_of, matches_of, takes}
 use Rattle.cost_model.specs.declared.model.ModelKind.TheVariants.{Ops}
@@ -8,7 +8,7 @@ use Rattle.dpe_words.specs.declared.choices.Mode.TheVariants.{Plan}
 use Rattle.dpe_words.specs.declared.choices.Settings.{Settings}
 use Rattle.dpe_words.specs.declared.choices.WordFault.{WordFault}
 use Rattle.dpe_words.specs.declared.choices.WordFault.TheVariants.{Usage, NoMemory}
-use Rattle.dpe_words.specs.declared.format.Format.TheVariants as format
+use Rattle.plan_report.specs.declared.report.Format.TheVariants as format
 use Rattle.dpe_words.specs.declared.line.Texts.{Texts}
 use Rattle.dpe_words.specs.Command.{command, whole_line}
 use Rattle.dpe_words.specs.Values.{modes, enumerators, models, formats, switches, meaning_in, number_in, value_or}
@@ -74,6 +74,11 @@ settings_of words = do
 
 abbrev pub IsLine : List Text → Type 0
 IsLine words = IsSome (settings_of words)
+
+-- the numbers of a command line's settings
+pub record AreInRange (s : Settings) : Type 0 where
+  pub buffer : (1 ≤ s.buffer) × (s.buffer ≤ 65536)
+  pub workers : (1 ≤ s.workers) × (s.workers ≤ 64)
 
 -- the answer is what the words say, or Usage where they say nothing; want of memory is free
 abbrev pub Tells : {X : Type 0} → Result X WordFault → Option X → Type 0

@@ -11,8 +11,8 @@ use Rattle.dpe_base.specs.declared.kind.Kind.{Kind}
 use Rattle.dpe_base.specs.declared.kind.Kind.TheVariants.{DpCcp, DpSub, DpSize, DpSva}
 use Rattle.dpe_words.specs.declared.choices.Mode.{Mode}
 use Rattle.dpe_words.specs.declared.choices.Mode.TheVariants.{Plan}
-use Rattle.dpe_words.specs.declared.format.Format.{Format}
-use Rattle.dpe_words.specs.declared.format.Format.TheVariants as format
+use Rattle.plan_report.specs.declared.report.Format.{Format}
+use Rattle.plan_report.specs.declared.report.Format.TheVariants as format
 
 -- ---- the words of each option; a mode or an enumerator stands here once its layer is built
 

@@ -1,9 +1,9 @@
 ghost use Rattle.std.specs.Prelude.{◌≡◌};
 ghost use Rattle.dpe_words.specs.declared.choices.WordFault.TheVariants.{NoMemory};
 
-use crate::format::Format;
 use cost_model::ModelKind;
 use dpe_base::Kind;
+use plan_report::Format;
 use std::alloc::{AllocError, AllocFailed, Global};
 
 /// What the program is asked to do.

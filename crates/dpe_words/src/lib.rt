@@ -4,7 +4,6 @@
 
 mod choices;
 mod command;
-mod format;
 mod line;
 #[cfg(test)]
 mod tests;
@@ -12,6 +11,5 @@ mod usage;
 mod values;
 
 pub use choices::{Mode, Settings, WordFault};
-pub use format::Format;
 pub use line::settings;
 pub use usage::usage_line;

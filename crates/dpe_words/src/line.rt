@@ -1,6 +1,6 @@
-ghost use Rattle.std.specs.Prelude.{◌≡◌, map, IfOk};
+ghost use Rattle.std.specs.Prelude.{◌≡◌, map, IfOk, IfSome};
 ghost use Rattle.dpe_words.specs.Command.{whole_line};
-ghost use Rattle.dpe_words.specs.Line.{Tells, TellsBy, given_by, given_in, settings_by, settings_of, texts_of};
+ghost use Rattle.dpe_words.specs.Line.{AreInRange, Tells, TellsBy, given_by, given_in, settings_by, settings_of, texts_of};
 
 use crate::choices::{Settings, WordFault};
 use crate::command::dpe_command;
@@ -58,9 +58,10 @@ fn texts_in<'a>(alloc: Global, line: &'a [&'a str]) -> Result<Texts<'a>, WordFau
 }
 
 /// What the values ask for, where each stands in its table.
-#[tactic(auto, unfolding(crate::specs::Line::settings_by))]
+#[tactic(auto, unfolding(crate::specs::Line::settings_by), using(crate::proofs::Numbers::in_range))]
 fn settings_in(texts: &Texts) -> Option<Settings>
-    ensures { result ≡ settings_by (given_in texts.now) }
+    ensures value { result ≡ settings_by (given_in texts.now) }
+    ensures ranges { IfSome result AreInRange }
 {
     let mode = mode_of(texts.mode)?;
     let enumerator = enumerator_of(texts.enumerator)?;
@@ -86,7 +87,8 @@ fn settings_in(texts: &Texts) -> Option<Settings>
 /// no command line.
 #[tactic(auto, unfolding(crate::specs::Line::settings_of))]
 pub fn settings(alloc: Global, words: &[String]) -> Result<Settings, WordFault>
-    ensures { Tells result (settings_of (texts_of words.now)) }
+    ensures told { Tells result (settings_of (texts_of words.now)) }
+    ensures ranges { IfOk result AreInRange }
 {
     let line = line_of(alloc, words)?;
     let texts = texts_in(alloc, line.as_slice())?;

@@ -1,6 +1,7 @@
-use crate::{Format, Mode, Settings, WordFault, settings, usage_line};
+use crate::{Mode, Settings, WordFault, settings, usage_line};
 use cost_model::ModelKind;
 use dpe_base::Kind;
+use plan_report::Format;
 use std::alloc::Global;
 use std::test::Fail;
 

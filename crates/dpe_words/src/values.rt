@@ -4,9 +4,9 @@ ghost use Rattle.std.specs.List.{list_all};
 ghost use Rattle.dpe_words.specs.Values.{enumerators, formats, from_to, meaning_in, models, modes, number_in, switches, value_or, written_number};
 
 use crate::choices::Mode;
-use crate::format::Format;
 use cost_model::ModelKind;
 use dpe_base::Kind;
+use plan_report::Format;
 
 /// The mode that the text names, `plan` where there is none. One whose layer isn't built has no name.
 pub fn mode_of(text: Option<&str>) -> Option<Mode>
