@@ -1,11 +1,11 @@
 //! What must stand at a site.
-ghost use Rattle.std.specs.Prelude.{◌≡◌, ℕ, IfOk, Result, option_map};
+ghost use Rattle.std.specs.Prelude.{◌≡◌, ℕ, IfOk, Result, option_map, option_and_then};
 ghost use Rattle.std.specs.List.{list_all};
 ghost use Rattle.serde_json.specs.Data.{Data};
 ghost use Rattle.serde_json.specs.Find.{as_object, as_array};
-ghost use Rattle.serde_json.specs.View.{view, items_view};
 ghost use Rattle.query_json.specs.Answer.{Gives, GivesBy};
 ghost use Rattle.query_json.specs.declared.fault.FileFault.{FileFault};
+ghost use Rattle.query_json.specs.Tree.{seen, seen_items};
 ghost use Rattle.query_json.specs.Walk.{is_printable, is_name, as_name, as_whole, as_list, as_version, as_pair, as_ratio, object_at, present, required, optional, each};
 
 use crate::NAME_MAX;
@@ -13,8 +13,9 @@ use crate::fault::FileFault;
 use crate::file::Ratio;
 use crate::items::Items;
 use crate::place::Place;
+use crate::tree::{is_null, is_object, items_of, text_of, whole_of as number_of};
 use dpe_base::Name;
-use serde_json::Value;
+use json::Value;
 use std::alloc::{AllocError, Global};
 
 fn is_printable(bytes: &[u8]) -> bool
@@ -31,16 +32,16 @@ fn is_name(text: &str) -> bool
 
 // The name that a value is, if it is one.
 fn as_name(alloc: Global, value: &Value) -> Result<Option<Name>, AllocError>
-    ensures { IfOk result (λ o. o ≡ as_name (view value.now)) }
+    ensures { IfOk result (λ o. o ≡ as_name (seen value.now)) }
 {
-    match value.as_str() {
+    match text_of(value) {
         Some(text) if is_name(text) => Ok(Some(Name::of(String::from_str(alloc, text)?))),
         _ => Ok(None),
     }
 }
 
 pub fn name_of(alloc: Global, member: Option<&Value>, place: Place) -> Result<Name, FileFault>
-    ensures { Gives result (required as_name place (option_map (λ v. view v.now) member.entry)) }
+    ensures { Gives result (required as_name place (option_map (λ v. seen v.now) member.entry)) }
 {
     let Some(value) = member else {
         return Err(FileFault::Shape(place));
@@ -52,69 +53,66 @@ pub fn name_of(alloc: Global, member: Option<&Value>, place: Place) -> Result<Na
 }
 
 pub fn whole_of(member: Option<&Value>, limit: u64, place: Place) -> Result<u64, FileFault>
-    ensures { Gives result (required (as_whole limit) place (option_map (λ v. view v.now) member.entry)) }
+    ensures { Gives result (required (as_whole limit) place (option_map (λ v. seen v.now) member.entry)) }
 {
-    match member.and_then(Value::as_u64) {
+    match member.and_then(number_of) {
         Some(number) if number <= limit => Ok(number),
         _ => Err(FileFault::Shape(place)),
     }
 }
 
 pub fn object_of(value: &Value, place: Place) -> Result<(), FileFault>
-    ensures { Gives result (object_at place (view value.now)) }
+    ensures { Gives result (object_at place (seen value.now)) }
 {
-    if value.is_object() {
+    if is_object(value) {
         Ok(())
     } else {
         Err(FileFault::Shape(place))
     }
 }
 
-pub fn array_of(member: Option<&Value>, place: Place) -> Result<&[Value], FileFault>
-    ensures { GivesBy (λ vs. items_view vs.now) result
-        (required as_array place (option_map (λ v. view v.now) member.entry)) }
+pub fn array_of<'v, 'a>(member: Option<&'v Value<'a>>) -> Option<&'v [Value<'a>]>
+    ensures { option_map (λ vs. seen_items vs.now) result
+        ≡ option_and_then as_array (option_map (λ v. seen v.now) member.entry) }
 {
-    match member.and_then(Value::as_array) {
-        Some(values) => Ok(values.as_slice()),
-        None => Err(FileFault::Shape(place)),
-    }
+    member.and_then(items_of)
 }
 
 // A member that is null counts as absent.
-fn present(member: Option<&Value>) -> Option<&Value>
-    ensures { option_map (λ v. view v.now) result ≡ present (option_map (λ v. view v.now) member.entry) }
+fn present<'v, 'a>(member: Option<&'v Value<'a>>) -> Option<&'v Value<'a>>
+    ensures { option_map (λ v. seen v.now) result ≡ present (option_map (λ v. seen v.now) member.entry) }
 {
     match member {
-        Some(value) if !value.is_null() => Some(value),
+        Some(value) if !is_null(value) => Some(value),
         _ => None,
     }
 }
 
 #[tactic(auto, using(crate::proofs::Lists::item_count_view))]
-pub fn optional_array_of(
-    member: Option<&Value>,
+pub fn optional_array_of<'v, 'a>(
+    member: Option<&'v Value<'a>>,
     limit: usize,
     place: Place,
-) -> Result<Option<&[Value]>, FileFault>
-    ensures { GivesBy (λ o. option_map (λ vs. items_view vs.now) o) result
-        (optional (as_list limit) place (option_map (λ v. view v.now) member.entry)) }
+) -> Result<Option<&'v [Value<'a>]>, FileFault>
+    ensures { GivesBy (λ o. option_map (λ vs. seen_items vs.now) o) result
+        (optional (as_list limit) place (option_map (λ v. seen v.now) member.entry)) }
 {
     let Some(value) = present(member) else {
         return Ok(None);
     };
-    match value.as_array() {
-        Some(values) if values.len() <= limit => Ok(Some(values.as_slice())),
+    match items_of(value) {
+        Some(values) if values.len() <= limit => Ok(Some(values)),
         _ => Err(FileFault::Shape(place)),
     }
 }
 
 pub fn version_of(member: Option<&Value>, place: Place) -> Result<Option<u64>, FileFault>
-    ensures { Gives result (optional as_version place (option_map (λ v. view v.now) member.entry)) }
+    ensures { Gives result (optional as_version place (option_map (λ v. seen v.now) member.entry)) }
 {
     let Some(value) = present(member) else {
         return Ok(None);
     };
-    match value.as_u64() {
+    match number_of(value) {
         Some(number) if number == 1 => Ok(Some(number)),
         _ => Err(FileFault::Shape(place)),
     }
@@ -125,7 +123,7 @@ pub fn optional_name_of(
     member: Option<&Value>,
     place: Place,
 ) -> Result<Option<Name>, FileFault>
-    ensures { Gives result (optional as_name place (option_map (λ v. view v.now) member.entry)) }
+    ensures { Gives result (optional as_name place (option_map (λ v. seen v.now) member.entry)) }
 {
     let Some(value) = present(member) else {
         return Ok(None);
@@ -138,12 +136,12 @@ pub fn optional_name_of(
 
 #[tactic(auto, using(crate::proofs::Lists::pair_short, crate::proofs::Lists::pair_long))]
 fn ratio_of(values: &[Value]) -> Option<Ratio>
-    ensures { result ≡ as_pair (items_view values.now) }
+    ensures { result ≡ as_pair (seen_items values.now) }
 {
     match values {
         [first, second] => {
-            let num = first.as_u64()?;
-            let den = second.as_u64()?;
+            let num = number_of(first)?;
+            let den = number_of(second)?;
             Some(Ratio { num, den })
         }
         _ => None,
@@ -151,12 +149,12 @@ fn ratio_of(values: &[Value]) -> Option<Ratio>
 }
 
 pub fn optional_ratio_of(member: Option<&Value>, place: Place) -> Result<Option<Ratio>, FileFault>
-    ensures { Gives result (optional as_ratio place (option_map (λ v. view v.now) member.entry)) }
+    ensures { Gives result (optional as_ratio place (option_map (λ v. seen v.now) member.entry)) }
 {
     let Some(value) = present(member) else {
         return Ok(None);
     };
-    let Some(values) = value.as_array() else {
+    let Some(values) = items_of(value) else {
         return Err(FileFault::Shape(place));
     };
     match ratio_of(values) {
@@ -172,7 +170,7 @@ pub trait Element: Drop {
     fn read(alloc: Global, outer: u64, at: u64, value: &Value) -> Result<Self, FileFault>
     where
         Self: Sized,
-        ensures { Gives result (reads outer at (view value.now)) };
+        ensures { Gives result (reads outer at (seen value.now)) };
 }
 
 /// The members of a list in order.
@@ -181,7 +179,7 @@ pub fn elements<T: Element>(
     outer: u64,
     values: &[Value],
 ) -> Result<Items<T>, FileFault>
-    ensures { Gives result (each (T.reads outer) 0 (items_view values.now)) }
+    ensures { Gives result (each (T.reads outer) 0 (seen_items values.now)) }
 {
     let mut items = Items::new(alloc);
     for (at, value) in values.iter().enumerate() {
