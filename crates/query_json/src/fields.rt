@@ -181,7 +181,7 @@ pub fn elements<T: Element>(
 ) -> Result<Items<T>, FileFault>
     ensures { Gives result (each (T.reads outer) 0 (seen_items values.now)) }
 {
-    let mut items = Items::new(alloc);
+    let mut items = Items::with_capacity(alloc, values.len())?;
     for (at, value) in values.iter().enumerate() {
         let element = T::read(alloc, outer, at as u64, value)?;
         items.push(element)?;

@@ -140,7 +140,7 @@ pub fn all_rels(
     requires { length relations.now ≤ N_MAX }
     ensures { Tells (λ v. v.items) result (all_of (rel_of tables.now) 0 relations.now) }
 {
-    let mut rels = Vec::new(alloc);
+    let mut rels = Vec::with_capacity(alloc, relations.len())?;
     for (at, relation) in relations.iter().enumerate() {
         let rel = rel_of(alloc, tables, at as u32, relation)?;
         rels.push(rel)?;
@@ -186,7 +186,7 @@ pub fn all_preds(alloc: Global, scope: &Scope, joins: &[JoinItem]) -> Result<Vec
     requires few_joins { length joins.now ≤ PREDS_MAX }
     ensures { Tells (λ v. v.items) result (all_of (pred_of scope.now.tables scope.now.relations) 0 joins.now) }
 {
-    let mut preds = Vec::new(alloc);
+    let mut preds = Vec::with_capacity(alloc, joins.len())?;
     for (at, join) in joins.iter().enumerate() {
         let pred = pred_of(alloc, scope, at as u32, join)?;
         preds.push(pred)?;

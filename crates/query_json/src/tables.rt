@@ -45,7 +45,7 @@ impl<'a> Model for Tables<'a> {
 fn all_columns<'a>(alloc: Global, tables: &'a [Table]) -> Result<Vec<Columns<'a>>, AllocError>
     ensures { IfOk result (λ v. v.items ≡ map (λ t. t.columns) tables.entry.now) }
 {
-    let mut all = Vec::new(alloc);
+    let mut all = Vec::with_capacity(alloc, tables.len())?;
     for table in tables {
         let columns = Columns::new(alloc, table.columns.as_slice())?;
         all.push(columns)?;
