@@ -49,6 +49,7 @@ fn column_counts<'a>(
 }
 
 impl<'a> Columns<'a> {
+    /// The columns of a table, which may have one name twice.
     pub fn new(alloc: Global, columns: &'a [Column]) -> Result<Columns<'a>, AllocError>
         ensures { IfOk result (λ c. c ≡ columns.entry.now) }
     {

@@ -2,7 +2,7 @@
 ghost use Rattle.std.specs.Prelude.{◌≡◌, ℕ, IfOk, Result, option_map, option_and_then};
 ghost use Rattle.std.specs.List.{list_all};
 ghost use Rattle.serde_json.specs.Data.{Data};
-ghost use Rattle.serde_json.specs.Find.{as_object, as_array};
+ghost use Rattle.serde_json.specs.Find.{as_array};
 ghost use Rattle.query_json.specs.Answer.{Gives, GivesBy};
 ghost use Rattle.query_json.specs.declared.fault.FileFault.{FileFault};
 ghost use Rattle.query_json.specs.Tree.{seen, seen_items};
@@ -21,7 +21,12 @@ use std::alloc::{AllocError, Global};
 fn is_printable(bytes: &[u8]) -> bool
     ensures { result ≡ list_all is_printable bytes.now }
 {
-    bytes.iter().all(|b| *b >= 32 && *b != 127)
+    let mut printable = true;
+    // It looks at all the bytes, so that many are looked at together.
+    'bytes: for byte in bytes {
+        printable &= (*byte >= 32) & (*byte != 127);
+    }
+    printable
 }
 
 fn is_name(text: &str) -> bool
@@ -40,6 +45,7 @@ fn as_name(alloc: Global, value: &Value) -> Result<Option<Name>, AllocError>
     }
 }
 
+/// A name that must be there: a string of 1 to [`NAME_MAX`] bytes without control characters. `Shape` of the place if not.
 pub fn name_of(alloc: Global, member: Option<&Value>, place: Place) -> Result<Name, FileFault>
     ensures { Gives result (required as_name place (option_map (λ v. seen v.now) member.entry)) }
 {
@@ -52,6 +58,7 @@ pub fn name_of(alloc: Global, member: Option<&Value>, place: Place) -> Result<Na
     }
 }
 
+/// A whole number up to a limit that must be there. `Shape` of the place if not.
 pub fn whole_of(member: Option<&Value>, limit: u64, place: Place) -> Result<u64, FileFault>
     ensures { Gives result (required (as_whole limit) place (option_map (λ v. seen v.now) member.entry)) }
 {
@@ -61,6 +68,7 @@ pub fn whole_of(member: Option<&Value>, limit: u64, place: Place) -> Result<u64,
     }
 }
 
+/// Nothing where the value is an object, and else `Shape` of the place.
 pub fn object_of(value: &Value, place: Place) -> Result<(), FileFault>
     ensures { Gives result (object_at place (seen value.now)) }
 {
@@ -71,6 +79,7 @@ pub fn object_of(value: &Value, place: Place) -> Result<(), FileFault>
     }
 }
 
+/// The items of an array that must be there, and none where the member is absent or no array.
 pub fn array_of<'v, 'a>(member: Option<&'v Value<'a>>) -> Option<&'v [Value<'a>]>
     ensures { option_map (λ vs. seen_items vs.now) result
         ≡ option_and_then as_array (option_map (λ v. seen v.now) member.entry) }
@@ -88,6 +97,7 @@ fn present<'v, 'a>(member: Option<&'v Value<'a>>) -> Option<&'v Value<'a>>
     }
 }
 
+/// The items of an array that may be absent or null. `Shape` of the place where it is none or has more than the limit.
 #[tactic(auto, using(crate::proofs::Lists::item_count_view))]
 pub fn optional_array_of<'v, 'a>(
     member: Option<&'v Value<'a>>,
@@ -106,6 +116,7 @@ pub fn optional_array_of<'v, 'a>(
     }
 }
 
+/// The version, which may be absent or null, and else must be 1. `Shape` of the place if not.
 pub fn version_of(member: Option<&Value>, place: Place) -> Result<Option<u64>, FileFault>
     ensures { Gives result (optional as_version place (option_map (λ v. seen v.now) member.entry)) }
 {
@@ -118,6 +129,7 @@ pub fn version_of(member: Option<&Value>, place: Place) -> Result<Option<u64>, F
     }
 }
 
+/// A name that may be absent or null. `Shape` of the place where there is another value.
 pub fn optional_name_of(
     alloc: Global,
     member: Option<&Value>,
@@ -148,6 +160,7 @@ fn ratio_of(values: &[Value]) -> Option<Ratio>
     }
 }
 
+/// A fraction that may be absent or null: an array of two whole numbers. `Shape` of the place where there is another value.
 pub fn optional_ratio_of(member: Option<&Value>, place: Place) -> Result<Option<Ratio>, FileFault>
     ensures { Gives result (optional as_ratio place (option_map (λ v. seen v.now) member.entry)) }
 {

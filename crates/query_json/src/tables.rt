@@ -64,6 +64,7 @@ fn table_names<'a>(alloc: Global, tables: &'a [Table]) -> Result<IndexSet<&'a st
 }
 
 impl<'a> Tables<'a> {
+    /// The tables. `DuplicateTable` where two of them have one name.
     #[tactic(auto, using(crate::proofs::NameLaws::table_names_are))]
     pub fn new(alloc: Global, tables: &'a [Table]) -> Result<Tables<'a>, FileFault>
         ensures { Gives result (tables_of tables.entry.now) }

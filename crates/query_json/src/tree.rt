@@ -140,6 +140,7 @@ pub fn items_of<'v, 'a>(value: &'v Value<'a>) -> Option<&'v [Value<'a>]>
     }
 }
 
+/// Whether the value is an object.
 pub fn is_object(value: &Value) -> bool
     ensures { result ≡ is_some (as_object (seen value.now)) }
 {
@@ -149,6 +150,7 @@ pub fn is_object(value: &Value) -> bool
     }
 }
 
+/// Whether the value is null.
 pub fn is_null(value: &Value) -> bool
     ensures { result ≡ is_some (as_null (seen value.now)) }
 {
