@@ -1,8 +1,8 @@
-ghost use Rattle.std.specs.Prelude.{◌≡◌, ◌≢◌, ◌≤◌, ◌<◌, ◌^◌, ◌+◌, ◌*◌, ℕ, length, get_or, OnOk, IfOk, slice_index};
-ghost use Rattle.dpe_base.specs.Queries.{JoinQuery, relations, IsQuery};
-ghost use Rattle.dpe_base.specs.Sets.{Has, Within, full, member};
-ghost use Rattle.card_scaled.specs.Scaled.{IsNear, one, mul, frac, rounded};
-ghost use Rattle.card_scaled.specs.Cards.{base_of, times_pred, times_base, with_relation, card, rows, IsCardTable};
+ghost use Rattle.std.specs.Prelude.{◌≡◌, ◌≢◌, ◌≤◌, ◌<◌, ◌^◌, ◌+◌, ◌*◌, ℕ, length, get_or, IfOk, slice_index};
+ghost use Rattle.dpe_base.specs.Queries.{JoinQuery, relations};
+ghost use Rattle.dpe_base.specs.Sets.{Within, full};
+ghost use Rattle.card_scaled.specs.Scaled.{IsNear, one, mul, rounded};
+ghost use Rattle.card_scaled.specs.Cards.{base_of, times_pred, with_relation, card, rows, IsCardTable};
 
 use crate::scaled::Scaled;
 use dpe_base::{INPUT_CAP, Pred, Query, Rel, RelSet};

@@ -5,7 +5,9 @@ pub mod JsonLaws
 pub mod Keys
 pub mod Lists
 pub mod NameLaws
+pub mod NumberLaws
 pub mod Passes
 pub mod QueryLaws
+pub mod TreeLaws
 pub mod UnreachedLaws
 pub mod WalkLaws

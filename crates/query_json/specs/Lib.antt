@@ -8,5 +8,6 @@ pub mod Queries
 pub mod Scope
 pub mod Sound
 pub mod Texts
+pub mod Tree
 pub mod Unreached
 pub mod Walk

@@ -36,17 +36,20 @@ fn column_counts<'a>(
 ) -> Result<IndexMap<&'a str, u64>, AllocError>
     ensures { IfOk result (λ m. (q : List ℕ) → get_by (λ k. bytes_eq q k.now) m ≡ distinct_in q columns.entry.now) }
 {
-    let mut counts = IndexMap::new(alloc);
-    for column in columns {
+    let mut counts = IndexMap::with_capacity(alloc, columns.len())?;
+    let mut left = columns.len();
+    // From the last to the first, so that of two columns of one name the first is put last, and stays.
+    'left: while 0 < left {
+        left -= 1;
+        let column = &columns[left];
         let name = column.name.text();
-        if !counts.contains_key(name) {
-            counts.insert(name, column.distinct)?;
-        }
+        counts.insert(name, column.distinct)?;
     }
     Ok(counts)
 }
 
 impl<'a> Columns<'a> {
+    /// The columns of a table, which may have one name twice.
     pub fn new(alloc: Global, columns: &'a [Column]) -> Result<Columns<'a>, AllocError>
         ensures { IfOk result (λ c. c ≡ columns.entry.now) }
     {

@@ -78,7 +78,7 @@ fn check_connected(alloc: Global, query: &Query, items: &[RelationItem]) -> Resu
 fn aliases_of(alloc: Global, relations: Items<RelationItem>) -> Result<Items<Name>, AllocError>
     ensures { IfOk result (λ v. v ≡ map (λ r. r.alias) relations) }
 {
-    let mut aliases = Items::new(alloc);
+    let mut aliases = Items::with_capacity(alloc, relations.len())?;
     for relation in relations.into_vec() {
         aliases.push(relation.alias)?;
     }
@@ -137,7 +137,7 @@ pub fn entries_of(
     ensures value { IfOk result (λ v. v ≡ map (entry_of tables.now) queries) }
     ensures sound { IfOk result (All IsEntrySound) }
 {
-    let mut entries = Items::new(alloc);
+    let mut entries = Items::with_capacity(alloc, queries.len())?;
     for query in queries.into_vec() {
         let one = entry_of(alloc, tables, query)?;
         entries.push(one)?;

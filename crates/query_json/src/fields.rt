@@ -1,11 +1,11 @@
 //! What must stand at a site.
-ghost use Rattle.std.specs.Prelude.{◌≡◌, ℕ, IfOk, Result, option_map};
+ghost use Rattle.std.specs.Prelude.{◌≡◌, ℕ, IfOk, Result, option_map, option_and_then};
 ghost use Rattle.std.specs.List.{list_all};
 ghost use Rattle.serde_json.specs.Data.{Data};
-ghost use Rattle.serde_json.specs.Find.{as_object, as_array};
-ghost use Rattle.serde_json.specs.View.{view, items_view};
+ghost use Rattle.serde_json.specs.Find.{as_array};
 ghost use Rattle.query_json.specs.Answer.{Gives, GivesBy};
 ghost use Rattle.query_json.specs.declared.fault.FileFault.{FileFault};
+ghost use Rattle.query_json.specs.Tree.{seen, seen_items};
 ghost use Rattle.query_json.specs.Walk.{is_printable, is_name, as_name, as_whole, as_list, as_version, as_pair, as_ratio, object_at, present, required, optional, each};
 
 use crate::NAME_MAX;
@@ -13,14 +13,20 @@ use crate::fault::FileFault;
 use crate::file::Ratio;
 use crate::items::Items;
 use crate::place::Place;
+use crate::tree::{is_null, is_object, items_of, text_of, whole_of as number_of};
 use dpe_base::Name;
-use serde_json::Value;
+use json::Value;
 use std::alloc::{AllocError, Global};
 
 fn is_printable(bytes: &[u8]) -> bool
     ensures { result ≡ list_all is_printable bytes.now }
 {
-    bytes.iter().all(|b| *b >= 32 && *b != 127)
+    let mut printable = true;
+    // It looks at all the bytes, so that many are looked at together.
+    'bytes: for byte in bytes {
+        printable &= (*byte >= 32) & (*byte != 127);
+    }
+    printable
 }
 
 fn is_name(text: &str) -> bool
@@ -31,16 +37,17 @@ fn is_name(text: &str) -> bool
 
 // The name that a value is, if it is one.
 fn as_name(alloc: Global, value: &Value) -> Result<Option<Name>, AllocError>
-    ensures { IfOk result (λ o. o ≡ as_name (view value.now)) }
+    ensures { IfOk result (λ o. o ≡ as_name (seen value.now)) }
 {
-    match value.as_str() {
+    match text_of(value) {
         Some(text) if is_name(text) => Ok(Some(Name::of(String::from_str(alloc, text)?))),
         _ => Ok(None),
     }
 }
 
+/// A name that must be there: a string of 1 to [`NAME_MAX`] bytes without control characters. `Shape` of the place if not.
 pub fn name_of(alloc: Global, member: Option<&Value>, place: Place) -> Result<Name, FileFault>
-    ensures { Gives result (required as_name place (option_map (λ v. view v.now) member.entry)) }
+    ensures { Gives result (required as_name place (option_map (λ v. seen v.now) member.entry)) }
 {
     let Some(value) = member else {
         return Err(FileFault::Shape(place));
@@ -51,81 +58,84 @@ pub fn name_of(alloc: Global, member: Option<&Value>, place: Place) -> Result<Na
     }
 }
 
+/// A whole number up to a limit that must be there. `Shape` of the place if not.
 pub fn whole_of(member: Option<&Value>, limit: u64, place: Place) -> Result<u64, FileFault>
-    ensures { Gives result (required (as_whole limit) place (option_map (λ v. view v.now) member.entry)) }
+    ensures { Gives result (required (as_whole limit) place (option_map (λ v. seen v.now) member.entry)) }
 {
-    match member.and_then(Value::as_u64) {
+    match member.and_then(number_of) {
         Some(number) if number <= limit => Ok(number),
         _ => Err(FileFault::Shape(place)),
     }
 }
 
+/// Nothing where the value is an object, and else `Shape` of the place.
 pub fn object_of(value: &Value, place: Place) -> Result<(), FileFault>
-    ensures { Gives result (object_at place (view value.now)) }
+    ensures { Gives result (object_at place (seen value.now)) }
 {
-    if value.is_object() {
+    if is_object(value) {
         Ok(())
     } else {
         Err(FileFault::Shape(place))
     }
 }
 
-pub fn array_of(member: Option<&Value>, place: Place) -> Result<&[Value], FileFault>
-    ensures { GivesBy (λ vs. items_view vs.now) result
-        (required as_array place (option_map (λ v. view v.now) member.entry)) }
+/// The items of an array that must be there, and none where the member is absent or no array.
+pub fn array_of<'v, 'a>(member: Option<&'v Value<'a>>) -> Option<&'v [Value<'a>]>
+    ensures { option_map (λ vs. seen_items vs.now) result
+        ≡ option_and_then as_array (option_map (λ v. seen v.now) member.entry) }
 {
-    match member.and_then(Value::as_array) {
-        Some(values) => Ok(values.as_slice()),
-        None => Err(FileFault::Shape(place)),
-    }
+    member.and_then(items_of)
 }
 
 // A member that is null counts as absent.
-fn present(member: Option<&Value>) -> Option<&Value>
-    ensures { option_map (λ v. view v.now) result ≡ present (option_map (λ v. view v.now) member.entry) }
+fn present<'v, 'a>(member: Option<&'v Value<'a>>) -> Option<&'v Value<'a>>
+    ensures { option_map (λ v. seen v.now) result ≡ present (option_map (λ v. seen v.now) member.entry) }
 {
     match member {
-        Some(value) if !value.is_null() => Some(value),
+        Some(value) if !is_null(value) => Some(value),
         _ => None,
     }
 }
 
+/// The items of an array that may be absent or null. `Shape` of the place where it is none or has more than the limit.
 #[tactic(auto, using(crate::proofs::Lists::item_count_view))]
-pub fn optional_array_of(
-    member: Option<&Value>,
+pub fn optional_array_of<'v, 'a>(
+    member: Option<&'v Value<'a>>,
     limit: usize,
     place: Place,
-) -> Result<Option<&[Value]>, FileFault>
-    ensures { GivesBy (λ o. option_map (λ vs. items_view vs.now) o) result
-        (optional (as_list limit) place (option_map (λ v. view v.now) member.entry)) }
+) -> Result<Option<&'v [Value<'a>]>, FileFault>
+    ensures { GivesBy (λ o. option_map (λ vs. seen_items vs.now) o) result
+        (optional (as_list limit) place (option_map (λ v. seen v.now) member.entry)) }
 {
     let Some(value) = present(member) else {
         return Ok(None);
     };
-    match value.as_array() {
-        Some(values) if values.len() <= limit => Ok(Some(values.as_slice())),
+    match items_of(value) {
+        Some(values) if values.len() <= limit => Ok(Some(values)),
         _ => Err(FileFault::Shape(place)),
     }
 }
 
+/// The version, which may be absent or null, and else must be 1. `Shape` of the place if not.
 pub fn version_of(member: Option<&Value>, place: Place) -> Result<Option<u64>, FileFault>
-    ensures { Gives result (optional as_version place (option_map (λ v. view v.now) member.entry)) }
+    ensures { Gives result (optional as_version place (option_map (λ v. seen v.now) member.entry)) }
 {
     let Some(value) = present(member) else {
         return Ok(None);
     };
-    match value.as_u64() {
+    match number_of(value) {
         Some(number) if number == 1 => Ok(Some(number)),
         _ => Err(FileFault::Shape(place)),
     }
 }
 
+/// A name that may be absent or null. `Shape` of the place where there is another value.
 pub fn optional_name_of(
     alloc: Global,
     member: Option<&Value>,
     place: Place,
 ) -> Result<Option<Name>, FileFault>
-    ensures { Gives result (optional as_name place (option_map (λ v. view v.now) member.entry)) }
+    ensures { Gives result (optional as_name place (option_map (λ v. seen v.now) member.entry)) }
 {
     let Some(value) = present(member) else {
         return Ok(None);
@@ -138,25 +148,26 @@ pub fn optional_name_of(
 
 #[tactic(auto, using(crate::proofs::Lists::pair_short, crate::proofs::Lists::pair_long))]
 fn ratio_of(values: &[Value]) -> Option<Ratio>
-    ensures { result ≡ as_pair (items_view values.now) }
+    ensures { result ≡ as_pair (seen_items values.now) }
 {
     match values {
         [first, second] => {
-            let num = first.as_u64()?;
-            let den = second.as_u64()?;
+            let num = number_of(first)?;
+            let den = number_of(second)?;
             Some(Ratio { num, den })
         }
         _ => None,
     }
 }
 
+/// A fraction that may be absent or null: an array of two whole numbers. `Shape` of the place where there is another value.
 pub fn optional_ratio_of(member: Option<&Value>, place: Place) -> Result<Option<Ratio>, FileFault>
-    ensures { Gives result (optional as_ratio place (option_map (λ v. view v.now) member.entry)) }
+    ensures { Gives result (optional as_ratio place (option_map (λ v. seen v.now) member.entry)) }
 {
     let Some(value) = present(member) else {
         return Ok(None);
     };
-    let Some(values) = value.as_array() else {
+    let Some(values) = items_of(value) else {
         return Err(FileFault::Shape(place));
     };
     match ratio_of(values) {
@@ -172,7 +183,7 @@ pub trait Element: Drop {
     fn read(alloc: Global, outer: u64, at: u64, value: &Value) -> Result<Self, FileFault>
     where
         Self: Sized,
-        ensures { Gives result (reads outer at (view value.now)) };
+        ensures { Gives result (reads outer at (seen value.now)) };
 }
 
 /// The members of a list in order.
@@ -181,9 +192,9 @@ pub fn elements<T: Element>(
     outer: u64,
     values: &[Value],
 ) -> Result<Items<T>, FileFault>
-    ensures { Gives result (each (T.reads outer) 0 (items_view values.now)) }
+    ensures { Gives result (each (T.reads outer) 0 (seen_items values.now)) }
 {
-    let mut items = Items::new(alloc);
+    let mut items = Items::with_capacity(alloc, values.len())?;
     for (at, value) in values.iter().enumerate() {
         let element = T::read(alloc, outer, at as u64, value)?;
         items.push(element)?;

@@ -2,12 +2,14 @@
 use crate::items::Items;
 use dpe_base::Name;
 
+/// A column of a table, and how many distinct values it has.
 #[derive(Debug, Drop)]
 pub struct Column {
     pub name: Name,
     pub distinct: u64,
 }
 
+/// A table, its rows and its columns.
 #[derive(Debug, Drop)]
 pub struct Table {
     pub name: Name,
@@ -22,6 +24,7 @@ pub struct Ratio {
     pub den: u64,
 }
 
+/// A relation of a query: the name of its table, and what its filter keeps.
 #[derive(Debug, Drop)]
 pub struct RelationItem {
     pub alias: Name,
@@ -29,6 +32,7 @@ pub struct RelationItem {
     pub filter: Option<Ratio>,
 }
 
+/// A join of a query: the aliases of its ends, and its columns or its selectivity.
 #[derive(Debug, Drop)]
 pub struct JoinItem {
     pub left: Name,
@@ -38,6 +42,7 @@ pub struct JoinItem {
     pub selectivity: Option<Ratio>,
 }
 
+/// A query as the file has it.
 #[derive(Debug, Drop)]
 pub struct QueryItem {
     pub name: Name,
@@ -45,6 +50,7 @@ pub struct QueryItem {
     pub joins: Items<JoinItem>,
 }
 
+/// A whole file.
 #[derive(Debug, Drop)]
 pub struct File {
     pub tables: Items<Table>,

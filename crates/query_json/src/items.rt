@@ -1,5 +1,5 @@
 //! Lists that contracts see as lists.
-ghost use Rattle.std.specs.Prelude.{◌≡◌, [], ◌∷◌, ◌++◌, length, OnOk, OnErr};
+ghost use Rattle.std.specs.Prelude.{◌≡◌, [], ◌∷◌, ◌++◌, length, IfOk, OnOk, OnErr};
 
 use std::alloc::{AllocError, Global};
 use std::marker::Model;
@@ -62,6 +62,15 @@ impl<T> Items<T> {
 }
 
 impl<T: Drop> Items<T> {
+    /// An empty list with room for so many elements.
+    pub fn with_capacity(alloc: Global, room: usize) -> Result<Items<T>, AllocError>
+        ensures { IfOk result (λ it. it ≡ []) }
+    {
+        Ok(Items {
+            items: Vec::with_capacity(alloc, room)?,
+        })
+    }
+
     /// Puts an element at the end. Without memory the list stays as it was.
     pub fn push(&mut self, item: T) -> Result<(), AllocError>
         ensures ok { OnOk result (self.new ≡ self.old ++ item ∷ []) }

@@ -10,6 +10,7 @@ mod file;
 mod items;
 pub mod laws;
 mod names;
+mod number;
 mod place;
 mod query;
 mod refusal;
@@ -18,6 +19,7 @@ mod tables;
 #[cfg(test)]
 mod tests;
 mod text;
+mod tree;
 mod walk;
 mod workload;
 

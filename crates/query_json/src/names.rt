@@ -48,7 +48,7 @@ impl<T: Drop> From<AllocFailed<T>> for Repeat {
 pub fn distinct<'a, T: HasName>(alloc: Global, items: &'a [T]) -> Result<IndexSet<&'a str>, Repeat>
     ensures { Numbers (λ s. map (λ k. k.now) s.keys) result (distinct_names T.label items.entry.now) }
 {
-    let mut names = IndexSet::new(alloc);
+    let mut names = IndexSet::with_capacity(alloc, items.len())?;
     for item in items {
         let name = item.name();
         if !names.insert(name.text())? {

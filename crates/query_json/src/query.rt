@@ -1,5 +1,5 @@
 //! What a query of the file means, pass by pass: each pass finds the refusals of one kind.
-ghost use Rattle.std.specs.Prelude.{◌≡◌, ◌≤◌, length, map};
+ghost use Rattle.std.specs.Prelude.{◌≤◌, length, map};
 ghost use Rattle.query_json.specs.Answer.{Tells};
 ghost use Rattle.query_json.specs.Queries.{aliases_of, all_of, apart, checked, ends_of, filter_of, fraction_at, most_distinct, pred_of, rel_of, selectivity_of, sized, table_of};
 
@@ -12,6 +12,7 @@ use dpe_base::{INPUT_CAP, N_MAX, Name, PREDS_MAX, Pred, Rel};
 use indexmap::IndexSet;
 use std::alloc::Global;
 
+/// Refuses a query without relations, or with more than [`N_MAX`].
 pub fn check_size(relations: &[RelationItem]) -> Result<(), Stop>
     ensures { Tells (λ u. u) result (sized relations.now) }
 {
@@ -32,6 +33,7 @@ impl HasName for RelationItem {
     }
 }
 
+/// The alias of each relation, at the relation's number. It refuses an alias that stands twice.
 pub fn alias_names<'a>(
     alloc: Global,
     relations: &'a [RelationItem],
@@ -61,6 +63,7 @@ fn table_of<'a>(
     }
 }
 
+/// Refuses a relation whose table the file does not have.
 pub fn check_tables(alloc: Global, tables: &Tables, relations: &[RelationItem]) -> Result<(), Stop>
     ensures { Tells (λ u. u) result (checked (table_of tables.now) relations.now) }
 {
@@ -70,6 +73,7 @@ pub fn check_tables(alloc: Global, tables: &Tables, relations: &[RelationItem]) 
     Ok(())
 }
 
+/// Refuses an end of a join that is no alias of the query.
 pub fn check_aliases(alloc: Global, scope: &Scope, joins: &[JoinItem]) -> Result<(), Stop>
     ensures { Tells (λ u. u) result (checked (ends_of scope.now.relations) joins.now) }
 {
@@ -79,6 +83,7 @@ pub fn check_aliases(alloc: Global, scope: &Scope, joins: &[JoinItem]) -> Result
     Ok(())
 }
 
+/// Refuses a column of a join that the table at its end does not have.
 pub fn check_columns(alloc: Global, scope: &Scope, joins: &[JoinItem]) -> Result<(), Stop>
     ensures { Tells (λ u. u) result (checked (most_distinct scope.now.tables scope.now.relations) joins.now) }
 {
@@ -88,6 +93,7 @@ pub fn check_columns(alloc: Global, scope: &Scope, joins: &[JoinItem]) -> Result
     Ok(())
 }
 
+/// Refuses a join with one alias at both ends.
 pub fn check_apart(alloc: Global, joins: &[JoinItem]) -> Result<(), Stop>
     ensures { Tells (λ u. u) result (checked apart joins.now) }
 {
@@ -132,6 +138,7 @@ fn rel_of(alloc: Global, tables: &Tables, at: u32, relation: &RelationItem) -> R
     })
 }
 
+/// Each relation with the rows of its table and the fraction of its filter. It refuses a filter that is no fraction.
 pub fn all_rels(
     alloc: Global,
     tables: &Tables,
@@ -140,7 +147,7 @@ pub fn all_rels(
     requires { length relations.now ≤ N_MAX }
     ensures { Tells (λ v. v.items) result (all_of (rel_of tables.now) 0 relations.now) }
 {
-    let mut rels = Vec::new(alloc);
+    let mut rels = Vec::with_capacity(alloc, relations.len())?;
     for (at, relation) in relations.iter().enumerate() {
         let rel = rel_of(alloc, tables, at as u32, relation)?;
         rels.push(rel)?;
@@ -181,12 +188,13 @@ fn pred_of(alloc: Global, scope: &Scope, at: u32, join: &JoinItem) -> Result<Pre
     })
 }
 
+/// Each join as a predicate between two relations. It refuses a selectivity that is no fraction.
 pub fn all_preds(alloc: Global, scope: &Scope, joins: &[JoinItem]) -> Result<Vec<Pred>, Stop>
     requires few { length scope.now.relations ≤ N_MAX }
     requires few_joins { length joins.now ≤ PREDS_MAX }
     ensures { Tells (λ v. v.items) result (all_of (pred_of scope.now.tables scope.now.relations) 0 joins.now) }
 {
-    let mut preds = Vec::new(alloc);
+    let mut preds = Vec::with_capacity(alloc, joins.len())?;
     for (at, join) in joins.iter().enumerate() {
         let pred = pred_of(alloc, scope, at as u32, join)?;
         preds.push(pred)?;

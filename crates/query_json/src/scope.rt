@@ -1,6 +1,5 @@
 //! The relations of a query, found by their aliases.
-ghost use Rattle.std.specs.Prelude.{◌≡◌, option_map, position, map};
-ghost use Rattle.std.specs.Str.{bytes_eq};
+ghost use Rattle.std.specs.Prelude.{◌≡◌, option_map, map};
 ghost use Rattle.query_json.specs.declared.refusal.QueryRefusal.TheVariants.{UnknownAlias};
 ghost use Rattle.query_json.specs.Answer.{Tells};
 ghost use Rattle.query_json.specs.Queries.{count_named, count_of, ends_of, most_distinct, relation_number};
@@ -41,6 +40,7 @@ impl<'a> Model for Scope<'a> {
 }
 
 impl<'a> Scope<'a> {
+    /// The relations over the tables, with the alias of each at its number.
     pub fn new(
         tables: &'a Tables<'a>,
         relations: &'a [RelationItem],

@@ -45,7 +45,7 @@ impl<'a> Model for Tables<'a> {
 fn all_columns<'a>(alloc: Global, tables: &'a [Table]) -> Result<Vec<Columns<'a>>, AllocError>
     ensures { IfOk result (λ v. v.items ≡ map (λ t. t.columns) tables.entry.now) }
 {
-    let mut all = Vec::new(alloc);
+    let mut all = Vec::with_capacity(alloc, tables.len())?;
     for table in tables {
         let columns = Columns::new(alloc, table.columns.as_slice())?;
         all.push(columns)?;
@@ -64,6 +64,7 @@ fn table_names<'a>(alloc: Global, tables: &'a [Table]) -> Result<IndexSet<&'a st
 }
 
 impl<'a> Tables<'a> {
+    /// The tables. `DuplicateTable` where two of them have one name.
     #[tactic(auto, using(crate::proofs::NameLaws::table_names_are))]
     pub fn new(alloc: Global, tables: &'a [Table]) -> Result<Tables<'a>, FileFault>
         ensures { Gives result (tables_of tables.entry.now) }

@@ -1,10 +1,10 @@
 //! Reading the whole file.
 ghost use Rattle.std.specs.Prelude.{◌≡◌, ℕ, IfOk, Result, option_map};
 ghost use Rattle.serde_json.specs.Data.{Data};
-ghost use Rattle.serde_json.specs.View.{view};
-ghost use Rattle.query_json.specs.Answer.{Gives, GivesBy};
+ghost use Rattle.query_json.specs.Answer.{Gives};
 ghost use Rattle.query_json.specs.Limits.{IsFileWithin};
-ghost use Rattle.query_json.specs.Walk.{column_at, columns_at, table_at, relation_at, selectivity_at, join_at, joins_at, query_at, file_at, json_at, file_of};
+ghost use Rattle.query_json.specs.Tree.{seen};
+ghost use Rattle.query_json.specs.Walk.{column_at, columns_at, table_at, relation_at, selectivity_at, join_at, joins_at, query_at, file_at, file_of};
 
 use crate::COLUMNS_MAX;
 use crate::fault::FileFault;
@@ -15,8 +15,9 @@ use crate::fields::{
 use crate::file::{Column, File, JoinItem, QueryItem, Ratio, RelationItem, Table};
 use crate::items::Items;
 use crate::place::{Place, Site};
+use crate::tree::{member, tree_of};
 use dpe_base::{INPUT_CAP, PREDS_MAX};
-use serde_json::Value;
+use json::{Scratch, Value};
 use std::alloc::Global;
 
 fn place(site: Site, i: u64, j: u64) -> Place
@@ -31,9 +32,9 @@ impl Element for Column {
     #[tactic(auto, unfolding(crate::specs::Walk::column_at))]
     fn read(alloc: Global, outer: u64, at: u64, value: &Value) -> Result<Self, FileFault> {
         object_of(value, place(Site::Column, outer, at))?;
-        let name = name_of(alloc, value.get("name"), place(Site::ColumnName, outer, at))?;
+        let name = name_of(alloc, member(value, "name"), place(Site::ColumnName, outer, at))?;
         let distinct = whole_of(
-            value.get("distinct"),
+            member(value, "distinct"),
             INPUT_CAP,
             place(Site::Distinct, outer, at),
         )?;
@@ -43,7 +44,7 @@ impl Element for Column {
 
 #[tactic(auto, unfolding(crate::specs::Walk::columns_at))]
 fn columns_of(alloc: Global, i: u64, member: Option<&Value>) -> Result<Items<Column>, FileFault>
-    ensures { Gives result (columns_at i (option_map (λ v. view v.now) member.entry)) }
+    ensures { Gives result (columns_at i (option_map (λ v. seen v.now) member.entry)) }
 {
     match optional_array_of(member, COLUMNS_MAX, place(Site::Columns, i, 0))? {
         Some(values) => elements(alloc, i, values),
@@ -57,9 +58,9 @@ impl Element for Table {
     #[tactic(auto, unfolding(crate::specs::Walk::table_at))]
     fn read(alloc: Global, outer: u64, at: u64, value: &Value) -> Result<Self, FileFault> {
         object_of(value, place(Site::Table, at, 0))?;
-        let name = name_of(alloc, value.get("name"), place(Site::TableName, at, 0))?;
-        let rows = whole_of(value.get("rows"), INPUT_CAP, place(Site::TableRows, at, 0))?;
-        let columns = columns_of(alloc, at, value.get("columns"))?;
+        let name = name_of(alloc, member(value, "name"), place(Site::TableName, at, 0))?;
+        let rows = whole_of(member(value, "rows"), INPUT_CAP, place(Site::TableRows, at, 0))?;
+        let columns = columns_of(alloc, at, member(value, "columns"))?;
         Ok(Table {
             name,
             rows,
@@ -74,9 +75,9 @@ impl Element for RelationItem {
     #[tactic(auto, unfolding(crate::specs::Walk::relation_at))]
     fn read(alloc: Global, outer: u64, at: u64, value: &Value) -> Result<Self, FileFault> {
         object_of(value, place(Site::Relation, outer, at))?;
-        let alias = name_of(alloc, value.get("alias"), place(Site::Alias, outer, at))?;
-        let table = name_of(alloc, value.get("table"), place(Site::TableRef, outer, at))?;
-        let filter = optional_ratio_of(value.get("filter"), place(Site::Filter, outer, at))?;
+        let alias = name_of(alloc, member(value, "alias"), place(Site::Alias, outer, at))?;
+        let table = name_of(alloc, member(value, "table"), place(Site::TableRef, outer, at))?;
+        let filter = optional_ratio_of(member(value, "filter"), place(Site::Filter, outer, at))?;
         Ok(RelationItem {
             alias,
             table,
@@ -91,7 +92,7 @@ fn selectivity_of(
     has_columns: bool,
     place: Place,
 ) -> Result<Option<Ratio>, FileFault>
-    ensures { Gives result (selectivity_at place has_columns (option_map (λ v. view v.now) member.entry)) }
+    ensures { Gives result (selectivity_at place has_columns (option_map (λ v. seen v.now) member.entry)) }
 {
     let found = optional_ratio_of(member, place)?;
     if !has_columns && found.is_none() {
@@ -106,21 +107,21 @@ impl Element for JoinItem {
     #[tactic(auto, unfolding(crate::specs::Walk::join_at))]
     fn read(alloc: Global, outer: u64, at: u64, value: &Value) -> Result<Self, FileFault> {
         object_of(value, place(Site::JoinItem, outer, at))?;
-        let left = name_of(alloc, value.get("left"), place(Site::Left, outer, at))?;
-        let right = name_of(alloc, value.get("right"), place(Site::Right, outer, at))?;
+        let left = name_of(alloc, member(value, "left"), place(Site::Left, outer, at))?;
+        let right = name_of(alloc, member(value, "right"), place(Site::Right, outer, at))?;
         let left_column = optional_name_of(
             alloc,
-            value.get("left_column"),
+            member(value, "left_column"),
             place(Site::LeftColumn, outer, at),
         )?;
         let right_column = optional_name_of(
             alloc,
-            value.get("right_column"),
+            member(value, "right_column"),
             place(Site::RightColumn, outer, at),
         )?;
         let has_columns = left_column.is_some() && right_column.is_some();
         let selectivity = selectivity_of(
-            value.get("selectivity"),
+            member(value, "selectivity"),
             has_columns,
             place(Site::Selectivity, outer, at),
         )?;
@@ -136,7 +137,7 @@ impl Element for JoinItem {
 
 #[tactic(auto, unfolding(crate::specs::Walk::joins_at))]
 fn joins_of(alloc: Global, i: u64, member: Option<&Value>) -> Result<Items<JoinItem>, FileFault>
-    ensures { Gives result (joins_at i (option_map (λ v. view v.now) member.entry)) }
+    ensures { Gives result (joins_at i (option_map (λ v. seen v.now) member.entry)) }
 {
     match optional_array_of(member, PREDS_MAX, place(Site::Joins, i, 0))? {
         Some(values) => elements(alloc, i, values),
@@ -150,10 +151,12 @@ impl Element for QueryItem {
     #[tactic(auto, unfolding(crate::specs::Walk::query_at))]
     fn read(alloc: Global, outer: u64, at: u64, value: &Value) -> Result<Self, FileFault> {
         object_of(value, place(Site::QueryItem, at, 0))?;
-        let name = name_of(alloc, value.get("name"), place(Site::QueryName, at, 0))?;
-        let list = array_of(value.get("relations"), place(Site::Relations, at, 0))?;
+        let name = name_of(alloc, member(value, "name"), place(Site::QueryName, at, 0))?;
+        let Some(list) = array_of(member(value, "relations")) else {
+            return Err(FileFault::Shape(place(Site::Relations, at, 0)));
+        };
         let relations = elements(alloc, at, list)?;
-        let joins = joins_of(alloc, at, value.get("joins"))?;
+        let joins = joins_of(alloc, at, member(value, "joins"))?;
         Ok(QueryItem {
             name,
             relations,
@@ -164,26 +167,19 @@ impl Element for QueryItem {
 
 #[tactic(auto, unfolding(crate::specs::Walk::file_at))]
 fn file_at(alloc: Global, value: &Value) -> Result<File, FileFault>
-    ensures { Gives result (file_at (view value.now)) }
+    ensures { Gives result (file_at (seen value.now)) }
 {
     object_of(value, place(Site::Root, 0, 0))?;
-    version_of(value.get("version"), place(Site::Version, 0, 0))?;
-    let table_list = array_of(value.get("tables"), place(Site::Tables, 0, 0))?;
+    version_of(member(value, "version"), place(Site::Version, 0, 0))?;
+    let Some(table_list) = array_of(member(value, "tables")) else {
+        return Err(FileFault::Shape(place(Site::Tables, 0, 0)));
+    };
     let tables = elements(alloc, 0, table_list)?;
-    let query_list = array_of(value.get("queries"), place(Site::Queries, 0, 0))?;
+    let Some(query_list) = array_of(member(value, "queries")) else {
+        return Err(FileFault::Shape(place(Site::Queries, 0, 0)));
+    };
     let queries = elements(alloc, 0, query_list)?;
     Ok(File { tables, queries })
-}
-
-#[tactic(auto, using(crate::proofs::JsonLaws::json_found, crate::proofs::JsonLaws::json_none))]
-fn json_of(alloc: Global, bytes: &[u8]) -> Result<Value, FileFault>
-    ensures { GivesBy view result (json_at bytes.now) }
-{
-    match Value::from_slice(alloc, bytes) {
-        Ok(value) => Ok(value),
-        Err(e) if e.is_memory() => Err(FileFault::NoMemory),
-        Err(_) => Err(FileFault::NotJson),
-    }
 }
 
 /// What the bytes of a file say.
@@ -192,6 +188,7 @@ pub fn file_of(alloc: Global, bytes: &[u8]) -> Result<File, FileFault>
     ensures value { Gives result (file_of bytes.now) }
     ensures within { IfOk result IsFileWithin }
 {
-    let value = json_of(alloc, bytes)?;
+    let mut scratch = Scratch::new(alloc);
+    let value = tree_of(alloc, bytes, &mut scratch)?;
     file_at(alloc, &value)
 }

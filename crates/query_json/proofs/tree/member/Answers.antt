@@ -1,0 +1,8 @@
+use Rattle.std.proofs.Common.{◌∙◌, ap, option_map, sym}
+use Rattle.json.specs.Value.{value_view}
+use Rattle.query_json.specs.Tree.{data_of}
+use Rattle.query_json.proofs.TreeLaws.{same_member, seen_found}
+use Rattle.query_json.proofs.tree.member.Goals as goal
+
+pub returns : goal.returns
+returns c = seen_found c.get.result _ c.get.ensures ∙ same_member c.args.name.now (value_view c.args.value.now)
