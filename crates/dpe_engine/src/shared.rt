@@ -4,6 +4,7 @@ use cost_model::CostModel;
 use memo_table::Memo;
 
 // It does not change while an engine runs. The memo does so only by its own steps.
+#[derive(Drop)]
 pub(crate) struct Shared<M: CostModel> {
     pub(crate) memo: Memo<M>,
     pub(crate) model: M,
