@@ -1,8 +1,13 @@
 mod files;
+mod formats;
+mod gates;
 mod hostile;
+mod observers;
 mod plans;
 mod refusals;
+mod shapes;
 mod sizes;
+mod words;
 
 use crate::{OpenGate, Status, dpe};
 use io_edge::{MemSink, MemSource};
