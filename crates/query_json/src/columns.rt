@@ -11,12 +11,12 @@ use std::marker::Model;
 
 /// The columns of a table, which contracts see as their list.
 #[derive(Drop)]
-pub struct Columns<'a> {
-    columns: &'a [Column],
-    counts: IndexMap<&'a str, u64>,
+pub struct Columns<'t, 'a> {
+    columns: &'t [Column<'a>],
+    counts: IndexMap<&'t str, u64>,
 }
 
-impl<'a> Model for Columns<'a> {
+impl<'t, 'a> Model for Columns<'t, 'a> {
     ghost use Rattle.std.specs.Prelude.{◌≡◌, ℕ, List};
     ghost use Rattle.std.specs.Str.{bytes_eq};
     ghost use Rattle.indexmap.specs.IndexMap.{get_by};
@@ -30,10 +30,10 @@ impl<'a> Model for Columns<'a> {
     ghost invariant = { λ c. (q : List ℕ) → get_by (λ k. bytes_eq q k.now) c.counts ≡ distinct_in q c.columns.now };
 }
 
-fn column_counts<'a>(
+fn column_counts<'t, 'a>(
     alloc: Global,
-    columns: &'a [Column],
-) -> Result<IndexMap<&'a str, u64>, AllocError>
+    columns: &'t [Column<'a>],
+) -> Result<IndexMap<&'t str, u64>, AllocError>
     ensures { IfOk result (λ m. (q : List ℕ) → get_by (λ k. bytes_eq q k.now) m ≡ distinct_in q columns.entry.now) }
 {
     let mut counts = IndexMap::with_capacity(alloc, columns.len())?;
@@ -48,9 +48,9 @@ fn column_counts<'a>(
     Ok(counts)
 }
 
-impl<'a> Columns<'a> {
+impl<'t, 'a> Columns<'t, 'a> {
     /// The columns of a table, which may have one name twice.
-    pub fn new(alloc: Global, columns: &'a [Column]) -> Result<Columns<'a>, AllocError>
+    pub fn new(alloc: Global, columns: &'t [Column<'a>]) -> Result<Columns<'t, 'a>, AllocError>
         ensures { IfOk result (λ c. c ≡ columns.entry.now) }
     {
         let counts = column_counts(alloc, columns)?;

@@ -26,10 +26,10 @@ use std::alloc::{AllocError, Global};
 
 // The query's two lists.
 #[tactic(auto, unfolding(crate::specs::Queries::query_of), using(crate::proofs::NameLaws::aliases_are))]
-fn lists_of<'a>(
+fn lists_of<'t, 'a>(
     alloc: Global,
-    tables: &'a Tables<'a>,
-    item: &'a QueryItem,
+    tables: &'t Tables<'t, 'a>,
+    item: &'t QueryItem<'a>,
 ) -> Result<(Vec<Rel>, Vec<Pred>), Stop>
     requires { IsQueryWithin item.now }
     ensures { Tells (λ p. record { rels = p.0.items; preds = p.1.items }) result
@@ -49,7 +49,7 @@ fn lists_of<'a>(
     Ok((rels, preds))
 }
 
-fn query_of<'a>(alloc: Global, tables: &'a Tables<'a>, item: &'a QueryItem) -> Result<Query, Stop>
+fn query_of<'t, 'a>(alloc: Global, tables: &'t Tables<'t, 'a>, item: &'t QueryItem<'a>) -> Result<Query, Stop>
     requires within { All IsTableWithin tables.now }
     requires few { IsQueryWithin item.now }
     ensures value { Tells (λ q. q) result (query_of tables.entry.now item.entry.now) }
@@ -69,28 +69,29 @@ fn check_connected(alloc: Global, query: &Query, items: &[RelationItem]) -> Resu
     match Graph::of(query).first_unreached() {
         None => Ok(()),
         Some(r) => {
-            let alias = Name::copy(alloc, &items[r as usize].alias)?;
+            let alias = items[r as usize].alias.to_name(alloc)?;
             Err(Stop::Refused(QueryRefusal::Disconnected(alias)))
         }
     }
 }
 
-fn aliases_of(alloc: Global, relations: Items<RelationItem>) -> Result<Items<Name>, AllocError>
-    ensures { IfOk result (λ v. v ≡ map (λ r. r.alias) relations) }
+fn aliases_of(alloc: Global, relations: &[RelationItem]) -> Result<Items<Name>, AllocError>
+    ensures { IfOk result (λ v. v ≡ map (λ r. r.alias) relations.now) }
 {
     let mut aliases = Items::with_capacity(alloc, relations.len())?;
-    for relation in relations.into_vec() {
-        aliases.push(relation.alias)?;
+    for relation in relations {
+        let alias = relation.alias.to_name(alloc)?;
+        aliases.push(alias)?;
     }
     Ok(aliases)
 }
 
 // The query, where it is connected.
 #[tactic(auto, unfolding(crate::specs::Queries::named_of))]
-fn connected_query<'a>(
+fn connected_query<'t, 'a>(
     alloc: Global,
-    tables: &'a Tables<'a>,
-    item: &'a QueryItem,
+    tables: &'t Tables<'t, 'a>,
+    item: &'t QueryItem<'a>,
 ) -> Result<Query, Stop>
     requires within { All IsTableWithin tables.now }
     requires few { IsQueryWithin item.now }
@@ -103,26 +104,21 @@ fn connected_query<'a>(
 }
 
 #[tactic(auto, unfolding(crate::specs::Entries::entry_of))]
-fn entry_of(alloc: Global, tables: &Tables, item: QueryItem) -> Result<Entry, AllocError>
+fn entry_of(alloc: Global, tables: &Tables, item: &QueryItem) -> Result<Entry, AllocError>
     requires within { All IsTableWithin tables.now }
-    requires few { IsQueryWithin item }
-    ensures value { IfOk result (λ e. e ≡ entry_of tables.now item) }
+    requires few { IsQueryWithin item.now }
+    ensures value { IfOk result (λ e. e ≡ entry_of tables.now item.now) }
     ensures sound { IfOk result IsEntrySound }
 {
-    let found = connected_query(alloc, tables, &item);
-    let QueryItem {
-        name,
-        relations,
-        joins: _,
-    } = item;
-    let part = match found {
+    let part = match connected_query(alloc, tables, item) {
         Ok(query) => Part::Accepted(Named {
             query,
-            aliases: aliases_of(alloc, relations)?,
+            aliases: aliases_of(alloc, item.relations.as_slice())?,
         }),
         Err(Stop::Refused(refusal)) => Part::Refused(refusal),
         Err(Stop::Memory) => return Err(AllocError),
     };
+    let name = item.name.to_name(alloc)?;
     Ok(Entry { name, part })
 }
 
@@ -130,15 +126,15 @@ fn entry_of(alloc: Global, tables: &Tables, item: QueryItem) -> Result<Entry, Al
 pub fn entries_of(
     alloc: Global,
     tables: &Tables,
-    queries: Items<QueryItem>,
+    queries: &[QueryItem],
 ) -> Result<Items<Entry>, AllocError>
     requires within { All IsTableWithin tables.now }
-    requires few { All IsQueryWithin queries }
-    ensures value { IfOk result (λ v. v ≡ map (entry_of tables.now) queries) }
+    requires few { All IsQueryWithin queries.now }
+    ensures value { IfOk result (λ v. v ≡ map (entry_of tables.now) queries.now) }
     ensures sound { IfOk result (All IsEntrySound) }
 {
     let mut entries = Items::with_capacity(alloc, queries.len())?;
-    for query in queries.into_vec() {
+    for query in queries {
         let one = entry_of(alloc, tables, query)?;
         entries.push(one)?;
     }

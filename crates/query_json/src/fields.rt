@@ -12,11 +12,11 @@ use crate::NAME_MAX;
 use crate::fault::FileFault;
 use crate::file::Ratio;
 use crate::items::Items;
+use crate::label::Label;
 use crate::place::Place;
 use crate::tree::{is_null, is_object, items_of, text_of, whole_of as number_of};
-use dpe_base::Name;
 use json::Value;
-use std::alloc::{AllocError, Global};
+use std::alloc::Global;
 
 fn is_printable(bytes: &[u8]) -> bool
     ensures { result ≡ list_all is_printable bytes.now }
@@ -36,23 +36,26 @@ fn is_name(text: &str) -> bool
 }
 
 // The name that a value is, if it is one.
-fn as_name(alloc: Global, value: &Value) -> Result<Option<Name>, AllocError>
-    ensures { IfOk result (λ o. o ≡ as_name (seen value.now)) }
+fn as_name<'a>(value: &Value<'a>) -> Option<Label<'a>>
+    ensures { result ≡ as_name (seen value.now) }
 {
     match text_of(value) {
-        Some(text) if is_name(text) => Ok(Some(Name::of(String::from_str(alloc, text)?))),
-        _ => Ok(None),
+        Some(text) if is_name(text) => Some(Label::of(text)),
+        _ => None,
     }
 }
 
 /// A name that must be there: a string of 1 to [`NAME_MAX`] bytes without control characters. `Shape` of the place if not.
-pub fn name_of(alloc: Global, member: Option<&Value>, place: Place) -> Result<Name, FileFault>
+pub fn name_of<'v, 'a>(
+    member: Option<&'v Value<'a>>,
+    place: Place,
+) -> Result<Label<'a>, FileFault>
     ensures { Gives result (required as_name place (option_map (λ v. seen v.now) member.entry)) }
 {
     let Some(value) = member else {
         return Err(FileFault::Shape(place));
     };
-    match as_name(alloc, value)? {
+    match as_name(value) {
         Some(name) => Ok(name),
         None => Err(FileFault::Shape(place)),
     }
@@ -130,17 +133,16 @@ pub fn version_of(member: Option<&Value>, place: Place) -> Result<Option<u64>, F
 }
 
 /// A name that may be absent or null. `Shape` of the place where there is another value.
-pub fn optional_name_of(
-    alloc: Global,
-    member: Option<&Value>,
+pub fn optional_name_of<'v, 'a>(
+    member: Option<&'v Value<'a>>,
     place: Place,
-) -> Result<Option<Name>, FileFault>
+) -> Result<Option<Label<'a>>, FileFault>
     ensures { Gives result (optional as_name place (option_map (λ v. seen v.now) member.entry)) }
 {
     let Some(value) = present(member) else {
         return Ok(None);
     };
-    match as_name(alloc, value)? {
+    match as_name(value) {
         Some(name) => Ok(Some(name)),
         None => Err(FileFault::Shape(place)),
     }
@@ -177,20 +179,20 @@ pub fn optional_ratio_of(member: Option<&Value>, place: Place) -> Result<Option<
 }
 
 /// A member of a list, which is read by its place.
-pub trait Element: Drop {
+pub trait Element<'a>: Drop {
     ghost reads: { ℕ → ℕ → Data → Result Self FileFault };
 
-    fn read(alloc: Global, outer: u64, at: u64, value: &Value) -> Result<Self, FileFault>
+    fn read(alloc: Global, outer: u64, at: u64, value: &Value<'a>) -> Result<Self, FileFault>
     where
         Self: Sized,
         ensures { Gives result (reads outer at (seen value.now)) };
 }
 
 /// The members of a list in order.
-pub fn elements<T: Element>(
+pub fn elements<'a, T: Element<'a>>(
     alloc: Global,
     outer: u64,
-    values: &[Value],
+    values: &[Value<'a>],
 ) -> Result<Items<T>, FileFault>
     ensures { Gives result (each (T.reads outer) 0 (seen_items values.now)) }
 {

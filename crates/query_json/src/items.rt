@@ -45,14 +45,6 @@ impl<T> Items<T> {
         self.items.as_slice()
     }
 
-    /// The elements as a vector. It takes no memory.
-    pub fn into_vec(self) -> Vec<T>
-        ensures { result.items ≡ self }
-    {
-        let Items { items } = self;
-        items
-    }
-
     /// How many elements there are.
     pub fn len(&self) -> usize
         ensures { result ≡ length self.now }

@@ -8,6 +8,7 @@ mod fault;
 mod fields;
 mod file;
 mod items;
+mod label;
 pub mod laws;
 mod names;
 mod number;

@@ -3,6 +3,7 @@ ghost use Rattle.std.specs.Prelude.{◌≡◌, ℕ, List, map, position};
 ghost use Rattle.std.specs.Str.{bytes_eq};
 ghost use Rattle.query_json.specs.Names.{Numbers, distinct_names};
 
+use crate::label::copied;
 use dpe_base::Name;
 use indexmap::IndexSet;
 use std::alloc::{AllocError, AllocFailed, Global};
@@ -11,7 +12,7 @@ use std::alloc::{AllocError, AllocFailed, Global};
 pub trait HasName {
     ghost label: { Self → List ℕ };
 
-    fn name(&self) -> &Name
+    fn name(&self) -> &str
         ensures { result.now ≡ label self.now };
 }
 
@@ -51,8 +52,8 @@ pub fn distinct<'a, T: HasName>(alloc: Global, items: &'a [T]) -> Result<IndexSe
     let mut names = IndexSet::with_capacity(alloc, items.len())?;
     for item in items {
         let name = item.name();
-        if !names.insert(name.text())? {
-            return Err(Repeat::Name(Name::copy(alloc, name)?));
+        if !names.insert(name)? {
+            return Err(Repeat::Name(copied(alloc, name)?));
         }
     }
     Ok(names)

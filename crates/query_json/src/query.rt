@@ -8,7 +8,7 @@ use crate::names::{HasName, Repeat, distinct};
 use crate::refusal::{FracPlace, QueryRefusal, Stop};
 use crate::scope::{Ends, Scope};
 use crate::tables::Tables;
-use dpe_base::{INPUT_CAP, N_MAX, Name, PREDS_MAX, Pred, Rel};
+use dpe_base::{INPUT_CAP, N_MAX, PREDS_MAX, Pred, Rel};
 use indexmap::IndexSet;
 use std::alloc::Global;
 
@@ -25,19 +25,19 @@ pub fn check_size(relations: &[RelationItem]) -> Result<(), Stop>
     Ok(())
 }
 
-impl HasName for RelationItem {
+impl<'a> HasName for RelationItem<'a> {
     ghost label = { λ r. r.alias };
 
-    fn name(&self) -> &Name {
-        &self.alias
+    fn name(&self) -> &str {
+        self.alias.text()
     }
 }
 
 /// The alias of each relation, at the relation's number. It refuses an alias that stands twice.
-pub fn alias_names<'a>(
+pub fn alias_names<'t, 'a>(
     alloc: Global,
-    relations: &'a [RelationItem],
-) -> Result<IndexSet<&'a str>, Stop>
+    relations: &'t [RelationItem<'a>],
+) -> Result<IndexSet<&'t str>, Stop>
     ensures { Tells (λ s. map (λ k. k.now) s.keys) result (aliases_of relations.entry.now) }
 {
     match distinct(alloc, relations) {
@@ -47,17 +47,17 @@ pub fn alias_names<'a>(
     }
 }
 
-fn table_of<'a>(
+fn table_of<'t, 'a>(
     alloc: Global,
-    tables: &Tables<'a>,
+    tables: &Tables<'t, 'a>,
     relation: &RelationItem,
-) -> Result<&'a Table, Stop>
+) -> Result<&'t Table<'a>, Stop>
     ensures { Tells (λ t. t.now) result (table_of tables.now relation.now) }
 {
     match tables.named(relation.table.text()) {
         Some(table) => Ok(table),
         None => {
-            let table = Name::copy(alloc, &relation.table)?;
+            let table = relation.table.to_name(alloc)?;
             Err(Stop::Refused(QueryRefusal::UnknownTable(table)))
         }
     }
@@ -99,7 +99,7 @@ pub fn check_apart(alloc: Global, joins: &[JoinItem]) -> Result<(), Stop>
 {
     for join in joins {
         if join.left.text() == join.right.text() {
-            let alias = Name::copy(alloc, &join.left)?;
+            let alias = join.left.to_name(alloc)?;
             return Err(Stop::Refused(QueryRefusal::SelfJoin(alias)));
         }
     }

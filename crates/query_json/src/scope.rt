@@ -5,10 +5,10 @@ ghost use Rattle.query_json.specs.Answer.{Tells};
 ghost use Rattle.query_json.specs.Queries.{count_named, count_of, ends_of, most_distinct, relation_number};
 
 use crate::file::{JoinItem, RelationItem};
+use crate::label::Label;
 use crate::names::number_of;
 use crate::refusal::{QueryRefusal, Stop};
 use crate::tables::Tables;
-use dpe_base::Name;
 use indexmap::IndexSet;
 use std::alloc::Global;
 use std::marker::Model;
@@ -22,13 +22,13 @@ pub struct Ends {
 
 /// The relations of a query over the tables of the file.
 #[derive(Drop)]
-pub struct Scope<'a> {
-    tables: &'a Tables<'a>,
-    relations: &'a [RelationItem],
-    aliases: IndexSet<&'a str>,
+pub struct Scope<'t, 'a> {
+    tables: &'t Tables<'t, 'a>,
+    relations: &'t [RelationItem<'a>],
+    aliases: IndexSet<&'t str>,
 }
 
-impl<'a> Model for Scope<'a> {
+impl<'t, 'a> Model for Scope<'t, 'a> {
     ghost use Rattle.std.specs.Prelude.{◌≡◌, map};
     ghost use Rattle.query_json.specs.Scope.{Scope};
 
@@ -39,13 +39,13 @@ impl<'a> Model for Scope<'a> {
     ghost invariant = { λ s. map (λ k. k.now) s.aliases.keys ≡ map (λ r. r.alias) s.relations.now };
 }
 
-impl<'a> Scope<'a> {
+impl<'t, 'a> Scope<'t, 'a> {
     /// The relations over the tables, with the alias of each at its number.
     pub fn new(
-        tables: &'a Tables<'a>,
-        relations: &'a [RelationItem],
-        aliases: IndexSet<&'a str>,
-    ) -> Scope<'a>
+        tables: &'t Tables<'t, 'a>,
+        relations: &'t [RelationItem<'a>],
+        aliases: IndexSet<&'t str>,
+    ) -> Scope<'t, 'a>
         requires { map (λ k. k.now) aliases.keys ≡ map (λ r. r.alias) relations.now }
         ensures { result ≡ record { tables = tables.entry.now; relations = relations.entry.now } }
     {
@@ -56,13 +56,13 @@ impl<'a> Scope<'a> {
         }
     }
 
-    fn number(&self, alloc: Global, alias: &Name) -> Result<usize, Stop>
+    fn number(&self, alloc: Global, alias: &Label) -> Result<usize, Stop>
         ensures { Tells (λ n. n) result (relation_number self.now.relations (UnknownAlias alias.now) alias.now) }
     {
         match number_of(&self.aliases, alias.text()) {
             Some(number) => Ok(number),
             None => {
-                let alias = Name::copy(alloc, alias)?;
+                let alias = alias.to_name(alloc)?;
                 Err(Stop::Refused(QueryRefusal::UnknownAlias(alias)))
             }
         }
@@ -77,7 +77,7 @@ impl<'a> Scope<'a> {
         Ok(Ends { left, right })
     }
 
-    fn count_named(&self, alias: &Name, column: &Name) -> Option<u64>
+    fn count_named(&self, alias: &Label, column: &Label) -> Option<u64>
         ensures { result ≡ count_named self.now.tables self.now.relations alias.now column.now }
     {
         let number = number_of(&self.aliases, alias.text())?;
@@ -86,7 +86,7 @@ impl<'a> Scope<'a> {
     }
 
     // The distinct count of the column at a join's end: 1 where none is given.
-    fn count(&self, alloc: Global, alias: &Name, column: Option<&Name>) -> Result<u64, Stop>
+    fn count(&self, alloc: Global, alias: &Label, column: Option<&Label>) -> Result<u64, Stop>
         ensures { Tells (λ n. n) result
             (count_of self.now.tables self.now.relations alias.now (option_map (λ c. c.now) column.entry)) }
     {
@@ -96,8 +96,8 @@ impl<'a> Scope<'a> {
         match self.count_named(alias, column) {
             Some(count) => Ok(count),
             None => {
-                let alias = Name::copy(alloc, alias)?;
-                let column = Name::copy(alloc, column)?;
+                let alias = alias.to_name(alloc)?;
+                let column = column.to_name(alloc)?;
                 Err(Stop::Refused(QueryRefusal::UnknownColumn(alias, column)))
             }
         }

@@ -9,28 +9,27 @@ use crate::columns::Columns;
 use crate::fault::FileFault;
 use crate::file::Table;
 use crate::names::{HasName, Repeat, distinct, number_of};
-use dpe_base::Name;
 use indexmap::IndexSet;
 use std::alloc::{AllocError, Global};
 use std::marker::Model;
 
-impl HasName for Table {
+impl<'a> HasName for Table<'a> {
     ghost label = { λ t. t.name };
 
-    fn name(&self) -> &Name {
-        &self.name
+    fn name(&self) -> &str {
+        self.name.text()
     }
 }
 
 /// The tables of a file, which contracts see as their list.
 #[derive(Drop)]
-pub struct Tables<'a> {
-    tables: &'a [Table],
-    names: IndexSet<&'a str>,
-    columns: Vec<Columns<'a>>,
+pub struct Tables<'t, 'a> {
+    tables: &'t [Table<'a>],
+    names: IndexSet<&'t str>,
+    columns: Vec<Columns<'t, 'a>>,
 }
 
-impl<'a> Model for Tables<'a> {
+impl<'t, 'a> Model for Tables<'t, 'a> {
     ghost use Rattle.std.specs.Prelude.{◌≡◌, List, map};
     ghost use Rattle.query_json.specs.declared.file.Table.{Table};
 
@@ -42,7 +41,10 @@ impl<'a> Model for Tables<'a> {
         × (t.columns.items ≡ map (λ x. x.columns) t.tables.now) };
 }
 
-fn all_columns<'a>(alloc: Global, tables: &'a [Table]) -> Result<Vec<Columns<'a>>, AllocError>
+fn all_columns<'t, 'a>(
+    alloc: Global,
+    tables: &'t [Table<'a>],
+) -> Result<Vec<Columns<'t, 'a>>, AllocError>
     ensures { IfOk result (λ v. v.items ≡ map (λ t. t.columns) tables.entry.now) }
 {
     let mut all = Vec::with_capacity(alloc, tables.len())?;
@@ -53,7 +55,10 @@ fn all_columns<'a>(alloc: Global, tables: &'a [Table]) -> Result<Vec<Columns<'a>
     Ok(all)
 }
 
-fn table_names<'a>(alloc: Global, tables: &'a [Table]) -> Result<IndexSet<&'a str>, FileFault>
+fn table_names<'t, 'a>(
+    alloc: Global,
+    tables: &'t [Table<'a>],
+) -> Result<IndexSet<&'t str>, FileFault>
     ensures { GivesBy (λ s. map (λ k. k.now) s.keys) result (table_names tables.entry.now) }
 {
     match distinct(alloc, tables) {
@@ -63,10 +68,10 @@ fn table_names<'a>(alloc: Global, tables: &'a [Table]) -> Result<IndexSet<&'a st
     }
 }
 
-impl<'a> Tables<'a> {
+impl<'t, 'a> Tables<'t, 'a> {
     /// The tables. `DuplicateTable` where two of them have one name.
     #[tactic(auto, using(crate::proofs::NameLaws::table_names_are))]
-    pub fn new(alloc: Global, tables: &'a [Table]) -> Result<Tables<'a>, FileFault>
+    pub fn new(alloc: Global, tables: &'t [Table<'a>]) -> Result<Tables<'t, 'a>, FileFault>
         ensures { Gives result (tables_of tables.entry.now) }
     {
         let names = table_names(alloc, tables)?;
@@ -79,7 +84,7 @@ impl<'a> Tables<'a> {
     }
 
     /// The table of a name.
-    pub fn named(&self, name: &str) -> Option<&'a Table>
+    pub fn named(&self, name: &str) -> Option<&'t Table<'a>>
         ensures { option_map (λ t. t.now) result ≡ table_named self.now name.now }
     {
         let number = number_of(&self.names, name)?;

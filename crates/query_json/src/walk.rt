@@ -26,13 +26,13 @@ fn place(site: Site, i: u64, j: u64) -> Place
     Place { site, i, j }
 }
 
-impl Element for Column {
+impl<'a> Element<'a> for Column<'a> {
     ghost reads = { column_at };
 
     #[tactic(auto, unfolding(crate::specs::Walk::column_at))]
-    fn read(alloc: Global, outer: u64, at: u64, value: &Value) -> Result<Self, FileFault> {
+    fn read(alloc: Global, outer: u64, at: u64, value: &Value<'a>) -> Result<Self, FileFault> {
         object_of(value, place(Site::Column, outer, at))?;
-        let name = name_of(alloc, member(value, "name"), place(Site::ColumnName, outer, at))?;
+        let name = name_of(member(value, "name"), place(Site::ColumnName, outer, at))?;
         let distinct = whole_of(
             member(value, "distinct"),
             INPUT_CAP,
@@ -43,7 +43,11 @@ impl Element for Column {
 }
 
 #[tactic(auto, unfolding(crate::specs::Walk::columns_at))]
-fn columns_of(alloc: Global, i: u64, member: Option<&Value>) -> Result<Items<Column>, FileFault>
+fn columns_of<'v, 'a>(
+    alloc: Global,
+    i: u64,
+    member: Option<&'v Value<'a>>,
+) -> Result<Items<Column<'a>>, FileFault>
     ensures { Gives result (columns_at i (option_map (λ v. seen v.now) member.entry)) }
 {
     match optional_array_of(member, COLUMNS_MAX, place(Site::Columns, i, 0))? {
@@ -52,13 +56,13 @@ fn columns_of(alloc: Global, i: u64, member: Option<&Value>) -> Result<Items<Col
     }
 }
 
-impl Element for Table {
+impl<'a> Element<'a> for Table<'a> {
     ghost reads = { table_at };
 
     #[tactic(auto, unfolding(crate::specs::Walk::table_at))]
-    fn read(alloc: Global, outer: u64, at: u64, value: &Value) -> Result<Self, FileFault> {
+    fn read(alloc: Global, outer: u64, at: u64, value: &Value<'a>) -> Result<Self, FileFault> {
         object_of(value, place(Site::Table, at, 0))?;
-        let name = name_of(alloc, member(value, "name"), place(Site::TableName, at, 0))?;
+        let name = name_of(member(value, "name"), place(Site::TableName, at, 0))?;
         let rows = whole_of(member(value, "rows"), INPUT_CAP, place(Site::TableRows, at, 0))?;
         let columns = columns_of(alloc, at, member(value, "columns"))?;
         Ok(Table {
@@ -69,14 +73,14 @@ impl Element for Table {
     }
 }
 
-impl Element for RelationItem {
+impl<'a> Element<'a> for RelationItem<'a> {
     ghost reads = { relation_at };
 
     #[tactic(auto, unfolding(crate::specs::Walk::relation_at))]
-    fn read(alloc: Global, outer: u64, at: u64, value: &Value) -> Result<Self, FileFault> {
+    fn read(alloc: Global, outer: u64, at: u64, value: &Value<'a>) -> Result<Self, FileFault> {
         object_of(value, place(Site::Relation, outer, at))?;
-        let alias = name_of(alloc, member(value, "alias"), place(Site::Alias, outer, at))?;
-        let table = name_of(alloc, member(value, "table"), place(Site::TableRef, outer, at))?;
+        let alias = name_of(member(value, "alias"), place(Site::Alias, outer, at))?;
+        let table = name_of(member(value, "table"), place(Site::TableRef, outer, at))?;
         let filter = optional_ratio_of(member(value, "filter"), place(Site::Filter, outer, at))?;
         Ok(RelationItem {
             alias,
@@ -101,21 +105,19 @@ fn selectivity_of(
     Ok(found)
 }
 
-impl Element for JoinItem {
+impl<'a> Element<'a> for JoinItem<'a> {
     ghost reads = { join_at };
 
     #[tactic(auto, unfolding(crate::specs::Walk::join_at))]
-    fn read(alloc: Global, outer: u64, at: u64, value: &Value) -> Result<Self, FileFault> {
+    fn read(alloc: Global, outer: u64, at: u64, value: &Value<'a>) -> Result<Self, FileFault> {
         object_of(value, place(Site::JoinItem, outer, at))?;
-        let left = name_of(alloc, member(value, "left"), place(Site::Left, outer, at))?;
-        let right = name_of(alloc, member(value, "right"), place(Site::Right, outer, at))?;
+        let left = name_of(member(value, "left"), place(Site::Left, outer, at))?;
+        let right = name_of(member(value, "right"), place(Site::Right, outer, at))?;
         let left_column = optional_name_of(
-            alloc,
             member(value, "left_column"),
             place(Site::LeftColumn, outer, at),
         )?;
         let right_column = optional_name_of(
-            alloc,
             member(value, "right_column"),
             place(Site::RightColumn, outer, at),
         )?;
@@ -136,7 +138,11 @@ impl Element for JoinItem {
 }
 
 #[tactic(auto, unfolding(crate::specs::Walk::joins_at))]
-fn joins_of(alloc: Global, i: u64, member: Option<&Value>) -> Result<Items<JoinItem>, FileFault>
+fn joins_of<'v, 'a>(
+    alloc: Global,
+    i: u64,
+    member: Option<&'v Value<'a>>,
+) -> Result<Items<JoinItem<'a>>, FileFault>
     ensures { Gives result (joins_at i (option_map (λ v. seen v.now) member.entry)) }
 {
     match optional_array_of(member, PREDS_MAX, place(Site::Joins, i, 0))? {
@@ -145,13 +151,13 @@ fn joins_of(alloc: Global, i: u64, member: Option<&Value>) -> Result<Items<JoinI
     }
 }
 
-impl Element for QueryItem {
+impl<'a> Element<'a> for QueryItem<'a> {
     ghost reads = { query_at };
 
     #[tactic(auto, unfolding(crate::specs::Walk::query_at))]
-    fn read(alloc: Global, outer: u64, at: u64, value: &Value) -> Result<Self, FileFault> {
+    fn read(alloc: Global, outer: u64, at: u64, value: &Value<'a>) -> Result<Self, FileFault> {
         object_of(value, place(Site::QueryItem, at, 0))?;
-        let name = name_of(alloc, member(value, "name"), place(Site::QueryName, at, 0))?;
+        let name = name_of(member(value, "name"), place(Site::QueryName, at, 0))?;
         let Some(list) = array_of(member(value, "relations")) else {
             return Err(FileFault::Shape(place(Site::Relations, at, 0)));
         };
@@ -166,7 +172,7 @@ impl Element for QueryItem {
 }
 
 #[tactic(auto, unfolding(crate::specs::Walk::file_at))]
-fn file_at(alloc: Global, value: &Value) -> Result<File, FileFault>
+fn file_at<'a>(alloc: Global, value: &Value<'a>) -> Result<File<'a>, FileFault>
     ensures { Gives result (file_at (seen value.now)) }
 {
     object_of(value, place(Site::Root, 0, 0))?;
@@ -184,11 +190,14 @@ fn file_at(alloc: Global, value: &Value) -> Result<File, FileFault>
 
 /// What the bytes of a file say.
 #[tactic(auto, unfolding(crate::specs::Walk::file_of))]
-pub fn file_of(alloc: Global, bytes: &[u8]) -> Result<File, FileFault>
+pub fn file_of<'a>(
+    alloc: Global,
+    bytes: &'a [u8],
+    scratch: &'a mut Scratch,
+) -> Result<File<'a>, FileFault>
     ensures value { Gives result (file_of bytes.now) }
     ensures within { IfOk result IsFileWithin }
 {
-    let mut scratch = Scratch::new(alloc);
-    let value = tree_of(alloc, bytes, &mut scratch)?;
+    let value = tree_of(alloc, bytes, scratch)?;
     file_at(alloc, &value)
 }

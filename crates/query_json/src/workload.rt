@@ -12,6 +12,7 @@ use crate::items::Items;
 use crate::tables::Tables;
 use crate::walk::file_of;
 use crate::{QUERIES_MAX, TABLES_MAX};
+use json::Scratch;
 use std::alloc::Global;
 use std::marker::Model;
 
@@ -68,10 +69,10 @@ fn count(file: &File) -> Result<(), FileFault>
 pub fn read(alloc: Global, bytes: &[u8]) -> Result<Workload, FileFault>
     ensures { Gives result (entries_of bytes.now) }
 {
-    let file = file_of(alloc, bytes)?;
+    let mut scratch = Scratch::new(alloc);
+    let file = file_of(alloc, bytes, &mut scratch)?;
     count(&file)?;
-    let File { tables, queries } = file;
-    let tables = Tables::new(alloc, tables.as_slice())?;
-    let entries = entries_of(alloc, &tables, queries)?;
+    let tables = Tables::new(alloc, file.tables.as_slice())?;
+    let entries = entries_of(alloc, &tables, file.queries.as_slice())?;
     Ok(Workload { entries })
 }
