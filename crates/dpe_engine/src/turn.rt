@@ -14,8 +14,8 @@ use std::thread::Threads;
 /// A group with fewer pairs is worked in the calling thread.
 const NARROW: usize = 32;
 
-/// A group with as many pairs is worked in threads.
-const WIDE: usize = 16_384;
+/// A group with as many pairs is worked in threads, and so large a buffer is filled in one.
+pub(crate) const WIDE: usize = 16_384;
 
 // In how many threads a group is worked: to start them pays from about WIDE pairs on. The first group of a run that is
 // not narrow is worked in threads whatever its size.
