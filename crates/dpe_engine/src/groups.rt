@@ -1,15 +1,30 @@
 //! The groups of one buffer.
-ghost use Rattle.std.specs.Prelude.{◌≡◌, ◌+◌, ◌<◌, ◌++◌, length, take, vec_capacity};
+ghost use Rattle.std.specs.Prelude.{◌≡◌, ◌+◌, ◌<◌, ◌≤◌, ◌++◌, length, take, vec_capacity};
 ghost use Rattle.reorder_buffer.specs.Groups.{groups_below};
 ghost use Rattle.dpe_engine.specs.Between.{below, IsBetween, IsShared, HasFreeCrew, StandNext, MayWorkBuffer, HasWorkedBuffer};
 
 use crate::gate::Gate;
 use crate::shared::Shared;
-use crate::turn::round;
+use crate::turn::{round_in, threads_for};
 use cost_model::CostModel;
 use memo_table::MemoSeat;
 use reorder_buffer::{Buffer, SIZES};
 use std::thread::Threads;
+
+/// Runs with a smaller buffer start no thread before a wide group.
+pub(crate) const NARROW: usize = 32;
+
+// The threads of a group. The first group of a run that fills a buffer is worked in threads whatever its size: they
+// cost little of such a run.
+fn threads_of(workers: u32, turns: u64, full: &Buffer) -> usize
+    requires { 1 ≤ workers }
+    ensures { 1 ≤ result }
+{
+    if turns == 0 && full.is_full() && full.len() >= NARROW {
+        return workers as usize;
+    }
+    threads_for(workers, full.group().len())
+}
 
 // Works the group of one size, if there is one, after `pairs` pairs of the list and the groups of smaller sizes.
 // It answers how many rounds there were.
@@ -39,11 +54,13 @@ fn work_group<M: CostModel, G: Gate, R: Threads + Sync>(
         return turns;
     }
     full.pick(size);
+    let threads = threads_of(shared.workers, turns, full);
     let group = full.group();
-    round(
+    round_in(
         rt,
         &shared.memo,
         shared.workers,
+        threads,
         group,
         &shared.model,
         &shared.cards,

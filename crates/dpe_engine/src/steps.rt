@@ -3,7 +3,7 @@ ghost use Rattle.std.specs.Prelude.{◌≡◌, ◌+◌, ◌<◌, length, vec_cap
 ghost use Rattle.dpe_engine.specs.Between.{MayWorkBuffer, HasWorkedBuffer, IsFilled, IsRunning};
 
 use crate::gate::Gate;
-use crate::groups::work_groups;
+use crate::groups::{NARROW, work_groups};
 use crate::shared::Shared;
 use crate::turn::WIDE;
 use cost_model::CostModel;
@@ -144,9 +144,9 @@ fn fill_beside_work<P: PairStream, M: CostModel, G: Gate, R: Threads + Sync>(
 }
 
 // Whether the next buffer is filled in a thread of its own. To start one takes as long as to fill some 5,000 pairs, so
-// it pays for large buffers. Beside a run's first buffer there is one whatever its size.
+// it pays for large buffers. Beside a run's first buffer there is one unless it is narrow.
 fn fills_beside(workers: u32, number: u64, pairs: usize) -> bool {
-    workers > 1 && (number == 1 || pairs >= WIDE)
+    workers > 1 && (pairs >= WIDE || (number == 1 && pairs >= NARROW))
 }
 
 // Fills the next buffer and works the full one, side by side or in turn.

@@ -11,23 +11,56 @@ use dpe_base::Pair;
 use memo_table::{Memo, MemoSeat};
 use std::thread::Threads;
 
-/// A group with fewer pairs is worked in the calling thread.
-const NARROW: usize = 32;
-
-/// A group with as many pairs is worked in threads, and so large a buffer is filled in one.
+/// A group with as many pairs is worked in threads, and so large a buffer is filled in one: to start them takes as long
+/// as to work some 14,000 pairs.
 pub(crate) const WIDE: usize = 16_384;
 
-// In how many threads a group is worked: to start them pays from about WIDE pairs on. The first group of a run that is
-// not narrow is worked in threads whatever its size.
-fn threads_for(workers: u32, pairs: usize, base: u64) -> usize
+/// The number of threads that a group of so many pairs pays for.
+pub(crate) fn threads_for(workers: u32, pairs: usize) -> usize
     requires { 1 ≤ workers }
     ensures { 1 ≤ result }
 {
-    if pairs >= WIDE || (pairs >= NARROW && base < NARROW as u64) {
-        workers as usize
-    } else {
-        1
-    }
+    if pairs >= WIDE { workers as usize } else { 1 }
+}
+
+// The same in so many threads.
+pub(crate) fn round_in<M: CostModel, G: Gate, R: Threads + Sync>(
+    rt: &R,
+    memo: &Memo<M>,
+    workers: u32,
+    threads: usize,
+    pairs: &[Pair],
+    model: &M,
+    cards: &CardTable,
+    gate: &G,
+    seat: &mut MemoSeat<M>,
+    crew: &mut Vec<MemoSeat<M>>,
+) -> u64
+    requires threads { 1 ≤ threads }
+    requires planned { IsPlanned memo.now cards.now }
+    requires may { MayTurn M.KIND memo.now workers pairs.now seat.old }
+    requires empty { crew.old.items ≡ [] }
+    requires room { workers ≤ vec_capacity crew.old }
+    ensures turned { HasTurned M.KIND memo.now result workers pairs.now seat.old seat.new }
+    ensures empty { crew.new.items ≡ [] }
+    ensures room { vec_capacity crew.new ≡ vec_capacity crew.old }
+{
+    let base = memo.drawn(seat);
+    split_off(memo, workers, pairs.len() as u64 + 1, seat, crew);
+    work_each(
+        rt,
+        memo,
+        base,
+        pairs,
+        model,
+        cards,
+        gate,
+        threads,
+        crew.as_mut_slice(),
+    );
+    gather(memo, seat, crew);
+    memo.drawn(seat);
+    base
 }
 
 /// All workers work the pairs, each with a seat of its own, which the main seat gives and takes in again. `crew` has
@@ -54,21 +87,8 @@ pub fn round<M: CostModel, G: Gate, R: Threads + Sync>(
     ensures empty { crew.new.items ≡ [] }
     ensures room { vec_capacity crew.new ≡ vec_capacity crew.old }
 {
-    let base = memo.drawn(seat);
-    split_off(memo, workers, pairs.len() as u64 + 1, seat, crew);
-    let threads = threads_for(workers, pairs.len(), base);
-    work_each(
-        rt,
-        memo,
-        base,
-        pairs,
-        model,
-        cards,
-        gate,
-        threads,
-        crew.as_mut_slice(),
-    );
-    gather(memo, seat, crew);
-    memo.drawn(seat);
-    base
+    let threads = threads_for(workers, pairs.len());
+    round_in(
+        rt, memo, workers, threads, pairs, model, cards, gate, seat, crew,
+    )
 }

@@ -5,7 +5,7 @@ use Rattle.memo_table.specs.Views.{EachOnceBelow}
 use Rattle.dpe_engine.specs.Rounds.{AreReady, HaveWorked, IsGathered, MayTurn}
 use Rattle.dpe_engine.proofs.Splits.{crew_ready}
 use Rattle.dpe_engine.proofs.Rounds.{turned, may_still, take_front}
-use Rattle.dpe_engine.proofs.turn.round.Goals as goal
+use Rattle.dpe_engine.proofs.turn.round_in.Goals as goal
 
 pub work_each-requires-clause-ready : goal.work_each-requires-clause-ready
 work_each-requires-clause-ready g c = λ κs h.
