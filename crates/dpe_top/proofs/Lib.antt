@@ -3,3 +3,4 @@ pub mod Planning
 pub mod Plans
 pub mod Reporting
 pub mod BestWords
+pub mod Sums

@@ -2,6 +2,8 @@ pub mod Words
 pub mod Planning
 pub mod Enumerations
 pub mod Plans
+pub mod Totals
+pub mod Summary
 pub mod Reports
 pub mod Lines
 pub mod Reply

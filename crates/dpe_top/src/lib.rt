@@ -9,6 +9,7 @@ mod planner;
 mod reply;
 mod report;
 mod status;
+mod summary;
 #[cfg(test)]
 mod tests;
 mod words;
