@@ -1,8 +1,6 @@
 -- Rounds of two workers over the pairs of one size of union after another.
-use Rattle.std.proofs.Common.{◌≡◌, ℕ, ◌+◌, ◌≤◌, ◌<◌, ◌==◌, Bool, true, List, [], ◌∷◌, Contains, filter, length, refl, sym, subst, ap, ◌∙◌, arith, ⊎_elim, inl, inr, eq-eqb}
+use Rattle.std.proofs.Common.{◌≡◌, ℕ, ◌+◌, ◌≤◌, ◌<◌, ◌==◌, Bool, List, Contains, filter, length, sym, subst, ap, ◌∙◌, arith, inl, inr}
 use Rattle.std.proofs.lemmas.Bool.{cases_lt}
-use Rattle.std.proofs.lemmas.Bool.Decides.{nat_tests}
-use Rattle.std.proofs.lemmas.List.Elements.{All-contains, All-contains_itself, All-filter, filter_passes, filter-append, Contains-append_left, Contains-append_right, Contains-append_cases, Contains-push_cases}
 use Rattle.dpe_base.specs.declared.pair.Pair.{Pair}
 use Rattle.dpe_base.specs.Queries.{JoinQuery, relations, IsQuery}
 use Rattle.dpe_base.specs.Sets.{union, single, size}
@@ -17,41 +15,26 @@ use Rattle.memo_table.specs.declared.TheConstants.{WEIGHT, DRAWS}
 use Rattle.memo_table.specs.declared.view.View.{View}
 use Rattle.memo_table.specs.Seats.{MemoTable, SeatView, IsSeatOf, BoundsAreMade, Settled}
 use Rattle.memo_table.specs.Views.{with_floor}
+use Rattle.reorder_buffer.specs.Groups.{union_size}
 use Rattle.dpe_engine.specs.Working.{IsPlanned}
 use Rattle.dpe_engine.specs.Rounds.{MayTurn, HasTurned}
 use Rattle.dpe_engine.specs.Levels.{IsLevel}
 use Rattle.dpe_engine.proofs.PairSteps.{stays_settled}
 use Rattle.dpe_engine.proofs.Bursts.{more_done}
 use Rattle.dpe_engine.proofs.Settles.{built_settled}
+use Rattle.dpe_engine.proofs.Places.{in_group, group_has}
 
 abbrev pub has_size : ℕ → Pair → Bool
 has_size count p = size (union p.a p.b) == count
 
-pub kept_by : (f : Pair → Bool) (xs : List Pair) (p : Pair) → Contains xs p → f p ≡ true → Contains (filter f xs) p
-kept_by f [] p c e = let h : c.0 < 0 = c.1 in absurd (omega arith)
-kept_by f (x ∷ xs) p c e =
-    let F : List Pair → Type 0 = λ l. Contains l p in
-    subst F (sym (filter-append f (x ∷ []) xs))
-    (⊎_elim
-    (λ (one : Contains (x ∷ []) p). Contains-append_left (filter f (x ∷ [])) (filter f xs) p (⊎_elim
-    (λ (n : Contains [] p). let h : n.0 < 0 = n.1 in absurd (omega arith))
-    (λ (same : x ≡ p). let G : Pair → Type 0 = λ y. Contains (filter f (y ∷ [])) p in subst G (sym same) (here p e))
-    (Contains-push_cases [] x p one)))
-    (λ other. Contains-append_right (filter f (x ∷ [])) (filter f xs) p (kept_by f xs p other e))
-    (Contains-append_cases (x ∷ []) xs p c))
-  where
-    here : (p : Pair) → f p ≡ true → Contains (filter f (p ∷ [])) p
-    here p e = rw e (0, omega arith, refl)
-
 -- the members of a level
 pub in_level : (count : ℕ) (xs : List Pair) (p : Pair) → Contains (filter (has_size count) xs) p → Contains xs p × (size (union p.a p.b) ≡ count)
-in_level count xs p c = (
-  All-contains (Contains xs) (filter (has_size count) xs) p (All-filter (has_size count) (Contains xs) xs (All-contains_itself xs)) c,
-  (let e = All-contains (λ x. has_size count x ≡ true) (filter (has_size count) xs) p (filter_passes (has_size count) xs) c in is _ _ e),
-)
-  where
-    is : (a b : ℕ) → (a == b) ≡ true → a ≡ b
-    is a b e = grind (arith, nat_tests)
+unfolding union_size
+in_level count xs p c = in_group count xs p c
+
+level_has : (count : ℕ) (xs : List Pair) (p : Pair) → Contains xs p → size (union p.a p.b) ≡ count → Contains (filter (has_size count) xs) p
+unfolding union_size
+level_has count xs p c e = group_has count xs p c e
 
 module _ (kind : ℕ) (memo : MemoTable) (cards : RowTable) (count : ℕ) (s : SeatView) (plan : IsPlanned memo cards) (l : IsLevel kind memo count s) where
   law : IsWorkable kind memo.query memo.pairs
@@ -99,7 +82,7 @@ module _ (kind : ℕ) (memo : MemoTable) (cards : RowTable) (count : ℕ) (s : S
           | inl small ↦ more_done kind memo.query memo.pairs s.view.bounds t.view.bounds p h.bounds (l.done p c small)
           | inr large ↦
               let F : List Pair → Type 0 = λ x. Contains x p in
-              h.done p (subst F (sym is) (kept_by (has_size count) memo.pairs p c (eq-eqb _ _ (omega arith))))
+              h.done p (subst F (sym is) (level_has count memo.pairs p c (omega arith)))
         ];
         allowance = let a = l.allowance in let b = h.allowance in omega arith;
       }

@@ -6,3 +6,8 @@ pub mod Gathers
 pub mod Rounds
 pub mod Settles
 pub mod Levels
+pub mod Places
+pub mod Members
+pub mod Advances
+pub mod Runs
+pub mod Ends

@@ -1,18 +1,23 @@
-//! A stand-in for the engine: no value of it can be made.
-ghost use Rattle.std.specs.Prelude.{◌≡◌, ◌≤◌, ◌<◌, ◌+◌, ◌*◌, ◌^◌, ℕ, length, IfOk, IsTrue, Contains, slice_index_or};
+//! A whole run: all pairs of a stream are worked, buffer by buffer.
+ghost use Rattle.std.specs.Prelude.{◌≡◌, ◌+◌, ◌*◌, ◌<◌, ◌≤◌, ◌^◌, ◌⊎◌, ℕ, IsTrue, IfOk, Contains, length, vec_capacity, slice_index_or};
 ghost use Rattle.dpe_base.specs.declared.pair.Pair.{Pair};
 ghost use Rattle.dpe_base.specs.Queries.{relations};
 ghost use Rattle.join_graph.specs.Graphs.{Pairs, graph_of};
 ghost use Rattle.pair_stream.specs.Orders.{Ordered};
-ghost use Rattle.reorder_buffer.specs.declared.TheConstants.{ROOM_MAX};
-ghost use Rattle.reorder_buffer.specs.Groups.{rounds, runs};
-ghost use Rattle.dpe_engine.specs.Engines.{IsLeastWord};
+ghost use Rattle.reorder_buffer.specs.Groups.{runs, rounds};
+ghost use Rattle.dpe_engine.specs.Engines.{EnginePlan, IsLeastWord};
+ghost use Rattle.dpe_engine.specs.Between.{IsRunning, HasEnded};
 
 use crate::gate::Gate;
+use crate::groups::work_groups;
+use crate::shared::Shared;
+use crate::steps::{Progress, fill_next, step};
+use card_scaled::CardTable;
 use cost_model::CostModel;
-use dpe_base::Query;
-use memo_table::Words;
+use dpe_base::{N_MAX, Query};
+use memo_table::{Memo, MemoSeat, Words};
 use pair_stream::PairStream;
+use reorder_buffer::{Buffer, ROOM_MAX};
 use std::alloc::{AllocError, Global};
 use std::marker::Model;
 use std::thread::Threads;
@@ -20,52 +25,183 @@ use std::thread::Threads;
 /// The words of a run, and how many pairs, buffers and rounds there were.
 #[derive(Drop)]
 pub struct Solved {
+    /// The word of each set of relations, at the place of the set's number.
     pub words: Words,
+    /// How many pairs were worked.
     pub pairs: u64,
+    /// How many buffers had a pair.
     pub buffers: u64,
+    /// How many groups had a pair, over all buffers.
     pub rounds: u64,
 }
 
-/// An engine.
+/// An engine before its run: it has all memory that the run needs. Contracts see its query, the pairs that will be
+/// worked, how many of them a buffer holds, and how many workers there are.
 #[derive(Drop)]
 pub struct Engine<M: CostModel> {
-    model: M,
-    solved: Solved,
+    shared: Shared<M>,
+    first: Buffer,
+    second: Buffer,
+    crew: Vec<MemoSeat<M>>,
+    seat: MemoSeat<M>,
+    // As asked for. The two buffers may have less room, where a list can't fill it.
+    buffer: u32,
 }
 
 impl<M: CostModel> Model for Engine<M> {
-    ghost use Rattle.dpe_engine.specs.Engines.{EnginePlan, Never, some_plan};
+    ghost use Rattle.std.specs.Prelude.{vec_capacity};
+    ghost use Rattle.dpe_engine.specs.Engines.{EnginePlan};
+    ghost use Rattle.dpe_engine.specs.Between.{IsPrepared};
 
     ghost Value = { EnginePlan };
 
-    ghost view = { λ _. some_plan };
+    ghost view = { λ e. record { query = e.shared.memo.query; pairs = e.shared.memo.pairs; buffer = e.buffer; workers = e.shared.workers } };
 
-    ghost invariant = { λ _. Never };
+    ghost invariant = { λ e. IsPrepared M.KIND e.shared.memo e.shared.cards e.shared.workers e.buffer e.first e.second e.crew.items (vec_capacity e.crew) e.seat };
+}
+
+// Works all full buffers, and fills the next one meanwhile.
+fn work_full_buffers<P: PairStream, M: CostModel, G: Gate, R: Threads + Sync>(
+    rt: &R,
+    shared: &Shared<M>,
+    gate: &G,
+    progress: Progress<P, M>,
+) -> Progress<P, M>
+    requires { IsRunning M.KIND shared.now.memo shared.now.cards shared.now.workers progress.full.room progress.pairs progress.buffers progress.turns (P.left progress.stream) (P.ended progress.stream) progress.full progress.next progress.crew.items (vec_capacity progress.crew) progress.seat }
+    ensures running { IsRunning M.KIND shared.now.memo shared.now.cards shared.now.workers progress.full.room result.pairs result.buffers result.turns (P.left result.stream) (P.ended result.stream) result.full result.next result.crew.items (vec_capacity result.crew) result.seat }
+    ensures total { P.total result.stream ≡ P.total progress.stream }
+    ensures short { length result.full.pairs < progress.full.room }
+{
+    let mut progress = progress;
+    'buffers: while progress.full.is_full() {
+        progress = step(rt, shared, gate, progress);
+    }
+    progress
+}
+
+// What is left of a run but the words.
+struct Ended<P, M: CostModel> {
+    stream: P,
+    seat: MemoSeat<M>,
+    pairs: u64,
+    buffers: u64,
+    turns: u64,
+}
+
+// Works the last buffer, which is not full.
+fn work_last_buffer<P: PairStream, M: CostModel, G: Gate, R: Threads + Sync>(
+    rt: &R,
+    shared: &Shared<M>,
+    gate: &G,
+    progress: Progress<P, M>,
+) -> Ended<P, M>
+    requires running { IsRunning M.KIND shared.now.memo shared.now.cards shared.now.workers progress.full.room progress.pairs progress.buffers progress.turns (P.left progress.stream) (P.ended progress.stream) progress.full progress.next progress.crew.items (vec_capacity progress.crew) progress.seat }
+    requires short { length progress.full.pairs < progress.full.room }
+    ensures ended { HasEnded M.KIND shared.now.memo shared.now.cards shared.now.workers progress.full.room result.pairs result.buffers result.turns (P.left result.stream) (P.ended result.stream) result.seat }
+    ensures total { P.total result.stream ≡ P.total progress.stream }
+{
+    let Progress {
+        stream,
+        mut full,
+        next: _,
+        mut crew,
+        mut seat,
+        pairs,
+        buffers,
+        turns,
+    } = progress;
+    let turns = work_groups(
+        rt, shared, gate, pairs, turns, &mut full, &mut crew, &mut seat,
+    );
+    let count = full.len() as u64;
+    Ended {
+        stream,
+        seat,
+        pairs: pairs + count,
+        buffers: buffers + count.min(1),
+        turns,
+    }
+}
+
+// How many pairs there is room for: a pair is two sets, and a buffer that has room for one more than there are pairs of
+// sets is never full.
+fn room_for(n: u8, buffer: u32) -> u32
+    requires relations { n ≤ N_MAX }
+    requires some { 1 ≤ buffer }
+    ensures within { (1 ≤ result) × (result ≤ buffer) }
+    ensures enough { (result ≡ buffer) ⊎ (4 ^ n < result) }
+{
+    let sets = 1u64 << n;
+    let most = sets * sets + 1;
+    most.min(buffer as u64) as u32
 }
 
 impl<M: CostModel> Engine<M> {
+    /// An engine for the pairs that the stream has left. The stream is only named: no pair is taken from it. Each pair
+    /// is a csg-cmp-pair of the query, and stands after the pairs that build its sides.
+    ///
+    /// `buffer` is how many pairs are taken at once, 1 to `ROOM_MAX`, and `workers` how many seats work a group, 1 to 64.
+    /// It takes all memory that `run` needs: the memo's word and the rows of each set, two buffers, and a seat for each
+    /// worker. Where there is not as much, it is an `AllocError`. The buffers have no more room than the pairs of so few
+    /// relations can fill.
     pub fn prepare<P: PairStream>(
-        _alloc: Global,
-        _query: &Query,
-        _model: M,
-        _buffer: u32,
-        _workers: u32,
-        _stream: &P,
+        alloc: Global,
+        query: &Query,
+        model: M,
+        buffer: u32,
+        workers: u32,
+        stream: &P,
     ) -> Result<Engine<M>, AllocError>
-        requires buffer { (1 ≤ _buffer) × (_buffer ≤ ROOM_MAX) }
-        requires workers { (1 ≤ _workers) × (_workers ≤ 64) }
-        requires within { (p : Pair) → Contains (P.left _stream.now) p → Pairs (graph_of _query.now) p }
-        requires ordered { Ordered (P.left _stream.now) }
-        ensures { IfOk result (λ e. e ≡ record { query = _query.now; pairs = P.left _stream.now; buffer = _buffer; workers = _workers }) }
+        requires buffer { (1 ≤ buffer) × (buffer ≤ ROOM_MAX) }
+        requires workers { (1 ≤ workers) × (workers ≤ 64) }
+        requires within { (p : Pair) → Contains (P.left stream.now) p → Pairs (graph_of query.now) p }
+        requires ordered { Ordered (P.left stream.now) }
+        ensures { IfOk result (λ e. e ≡ record { query = query.now; pairs = P.left stream.now; buffer = buffer; workers = workers }) }
     {
-        Err(AllocError)
+        let n = query.n();
+        let (memo, mut seat) = Memo::make(alloc, query, stream)?;
+        memo.drawn(&mut seat);
+        let cards = CardTable::make(alloc, query)?;
+        let crew = Vec::with_capacity(alloc, workers as usize)?;
+        let room = room_for(n, buffer);
+        let first = Buffer::with_capacity(alloc, room)?;
+        let second = Buffer::with_capacity(alloc, room)?;
+        let shared = Shared {
+            memo,
+            model,
+            cards,
+            workers,
+        };
+        Ok(Engine {
+            shared,
+            first,
+            second,
+            crew,
+            seat,
+            buffer,
+        })
     }
 
+    /// Works all pairs of the stream, and hands the stream back.
+    ///
+    /// It reorders the pairs by what they depend on, after Han and Lee, "Dependency-Aware Reordering for Parallelizing
+    /// Query Optimization in Multi-Core CPUs", SIGMOD 2009. An enumerator gives the pairs that build a side before each
+    /// pair that uses it, but often just before, so neighbours can't be worked at once. The pairs of a buffer are
+    /// therefore taken by groups: those of one size of union, by ascending size. No pair of a group builds a side of
+    /// another, and all that builds its sides was worked in an earlier buffer or a smaller group. Each group that has a
+    /// pair is one round of all workers.
+    ///
+    /// While a full buffer is worked the next one is filled: in a thread of its own, or, where there is one worker, before
+    /// it in the calling thread. After a fill that took less than a buffer holds none follows. The workers of a round go
+    /// in threads of their own where the group is large enough to pay for them, and else one after the other in the
+    /// calling thread.
+    ///
+    /// The gate is told of each buffer before it is filled, and of each draw. It takes no memory.
     pub fn run<P: PairStream, G: Gate, R: Threads + Sync>(
         self,
-        _rt: &R,
+        rt: &R,
         stream: P,
-        _gate: &G,
+        gate: &G,
     ) -> (Solved, P)
         requires named { P.left stream ≡ self.pairs }
         ensures size { length result.0.words.row ≡ 2 ^ relations self.query }
@@ -77,7 +213,48 @@ impl<M: CostModel> Engine<M> {
         ensures ended { IsTrue (P.ended result.1) }
         ensures total { P.total result.1 ≡ P.total stream }
     {
-        let Engine { solved, .. } = self;
-        (solved, stream)
+        let Engine {
+            shared,
+            first,
+            second,
+            crew,
+            seat,
+            buffer: _,
+        } = self;
+        let (stream, first) = fill_next(gate, 0, stream, first);
+        let progress = Progress {
+            stream,
+            full: first,
+            next: second,
+            crew,
+            seat,
+            pairs: 0,
+            buffers: 0,
+            turns: 0,
+        };
+        let progress = work_full_buffers(rt, &shared, gate, progress);
+        let Ended {
+            stream,
+            seat,
+            pairs,
+            buffers,
+            turns,
+        } = work_last_buffer(rt, &shared, gate, progress);
+        let Shared {
+            memo,
+            model: _,
+            cards: _,
+            workers: _,
+        } = shared;
+        let words = memo.finish(seat);
+        (
+            Solved {
+                words,
+                pairs,
+                buffers,
+                rounds: turns,
+            },
+            stream,
+        )
     }
 }

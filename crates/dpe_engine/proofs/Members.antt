@@ -1,0 +1,58 @@
+-- Groups and fronts of a list of pairs.
+use Rattle.std.proofs.Common.{◌≡◌, ℕ, zero, suc, ◌+◌, ◌≤◌, nat_lt, Bool, true, false, cond, List, [], ◌∷◌, ◌++◌, length, take, refl, sym, ap, ◌∙◌, arith, length-append, append_assoc}
+use Rattle.std.proofs.lemmas.Bool.Decides.{nat_tests}
+use Rattle.std.proofs.Math.Seq.{take-append_seam}
+use Rattle.dpe_base.specs.declared.pair.Pair.{Pair}
+use Rattle.dpe_base.specs.Sets.{union, size}
+use Rattle.reorder_buffer.specs.Groups.{union_size, group_of, groups_below}
+use Rattle.reorder_buffer.proofs.Weights.{groups_below-suc}
+use Rattle.dpe_engine.specs.Between.{below}
+
+pub union_size_is : (p : Pair) → union_size p ≡ size (union p.a p.b)
+unfolding union_size
+union_size_is p = refl
+
+pub length_below-le : (n : ℕ) (xs : List Pair) → length (below n xs) ≤ length xs
+length_below-le n [] = omega arith
+length_below-le n (x ∷ xs) = let r = length_below-le n xs in let o = one (nat_lt (union_size x) n) in omega arith
+  where
+    one : (b : Bool) → length (cond b (x ∷ below n xs) (below n xs)) ≤ 1 + length (below n xs)
+    one true = omega arith
+    one false = omega arith
+
+-- how many groups there are, with one size more
+pub groups_more : (n : ℕ) (xs : List Pair) → length (groups_below (n + 1) xs) ≡ length (groups_below n xs) + cond (nat_lt 0 (length (group_of n xs))) 1 0
+groups_more n xs =
+    let e = ap (λ (l : List (List Pair)). length l) (groups_below-suc n xs) in
+    let a = length-append (groups_below n xs) (cond (nat_lt 0 (length (group_of n xs))) (group_of n xs ∷ []) []) in
+    let o = one (nat_lt 0 (length (group_of n xs))) in omega arith
+  where
+    one : (b : Bool) → length (cond b (group_of n xs ∷ []) []) ≡ cond b 1 0 + 0
+    one true = refl
+    one false = refl
+
+-- a group that has a pair is a round more, and one that has none isn't
+pub turned_some : (n turns : ℕ) (xs : List Pair) → 1 ≤ length (group_of n xs) → turns + 1 + length (groups_below n xs) ≡ turns + length (groups_below (n + 1) xs)
+turned_some n turns xs some = let e = groups_more n xs in let o = one (length (group_of n xs)) some in omega arith
+  where
+    one : (k : ℕ) → 1 ≤ k → cond (nat_lt 0 k) 1 0 + 0 ≡ 1
+    one k some = grind (arith, nat_tests)
+
+pub turned_none : (n turns : ℕ) (xs : List Pair) → length (group_of n xs) ≡ 0 → turns + length (groups_below n xs) ≡ turns + length (groups_below (n + 1) xs)
+turned_none n turns xs none = let e = groups_more n xs in let o = one (length (group_of n xs)) none in omega arith
+  where
+    one : (k : ℕ) → k ≡ 0 → cond (nat_lt 0 k) 1 0 + 0 ≡ 0
+    one k none = grind (arith, nat_tests)
+
+pub length_take : (k : ℕ) (xs : List Pair) → k ≤ length xs → length (take k xs) ≡ k
+length_take zero xs h = refl
+length_take (suc k) [] h = absurd (omega arith)
+length_take (suc k) (x ∷ xs) h = ap suc (length_take k xs (omega arith))
+
+-- the front of a list, with the next piece
+pub take_more : (k : ℕ) (whole xs ys : List Pair) → k ≤ length whole → whole ≡ take k whole ++ (xs ++ ys) → take (k + length xs) whole ≡ take k whole ++ xs
+take_more k whole xs ys h is =
+    let front : List Pair = take k whole ++ xs in
+    let e : whole ≡ front ++ ys = is ∙ sym (append_assoc (take k whole) xs ys) in
+    let n : k + length xs ≡ length front = let a = length-append (take k whole) xs in let b = length_take k whole h in omega arith in
+    ap (λ (i : ℕ). take i whole) n ∙ (ap (λ (l : List Pair). take (length front) l) e ∙ take-append_seam front ys)
