@@ -1,6 +1,7 @@
 mod files;
 mod plans;
 mod refusals;
+mod samples;
 
 use crate::{OpenGate, Status, dpe};
 use io_edge::{MemSink, MemSource};
