@@ -8,3 +8,4 @@ pub mod Reports
 pub mod Lines
 pub mod Reply
 pub mod Replies
+pub mod Laws

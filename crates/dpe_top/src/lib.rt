@@ -3,6 +3,7 @@
 
 mod call;
 mod gate;
+pub mod laws;
 mod lines;
 mod plan;
 mod planner;
