@@ -4,4 +4,4 @@ pub mod Plans
 pub mod Reporting
 pub mod BestWords
 pub mod Sums
-pub mod OneSummary
+pub mod OneSample

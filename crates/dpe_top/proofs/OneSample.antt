@@ -1,5 +1,5 @@
--- Entries have one summary.
-use Rattle.std.proofs.Common.{◌≡◌, ◌<◌, ◌≤◌, ℕ, true, false, ◌&&◌, Bool, refl, sym, ◌∙◌, ap, subst, arith, List, [], ◌∷◌, length, Some, None, Option}
+-- A number and a model have one summary.
+use Rattle.std.proofs.Common.{◌≡◌, ◌<◌, ◌≤◌, ℕ, true, false, ◌&&◌, Bool, refl, sym, ◌∙◌, ap, subst, arith, List, [], ◌∷◌, length, Some, None, Option, Result, Ok}
 use Rattle.std.specs.Prelude.{All, nat_eq}
 use Rattle.std.specs.Bool.{Decides}
 use Rattle.std.proofs.lemmas.Bool.Decides.{nat_tests}
@@ -17,11 +17,14 @@ use Rattle.pair_stream.specs.Orders.{Complete}
 use Rattle.query_json.specs.declared.entry.Entry.{Entry}
 use Rattle.query_json.specs.declared.entry.Part.{Part}
 use Rattle.query_json.specs.declared.entry.Part.TheVariants.{Accepted, Refused}
+use Rattle.query_json.specs.declared.fault.FileFault.{FileFault}
+use Rattle.query_json.specs.Entries.{entries_of}
+use Rattle.workload_gen.specs.Values.{workload_of}
 use Rattle.query_json.specs.Sound.{IsEntrySound, IsPartSound}
 use Rattle.dpe_top.specs.declared.summary.Share.{Share}
 use Rattle.dpe_top.specs.declared.summary.Totals.{Totals}
-use Rattle.dpe_top.specs.Laws.{OneCount, OneSummary}
-use Rattle.dpe_top.specs.Summary.{IsShare, AreShares, planned_queries, query_in, totals_of, summary_line}
+use Rattle.dpe_top.specs.Laws.{OneCount, OneSample}
+use Rattle.dpe_top.specs.Summary.{IsShare, AreShares, IsSummary, planned_queries, query_in, totals_of, summary_line}
 
 pair_eq : Pair → Pair → Bool
 pair_eq p q = nat_eq p.a q.a && nat_eq p.b q.b
@@ -83,9 +86,19 @@ sound_queries [] ok = All-nil IsQuery
 sound_queries (entry ∷ rest) ok =
     queries_with entry rest entry.part refl (All-head IsEntrySound entry rest ok) (sound_queries rest (All-tail IsEntrySound entry rest ok))
 
-pub one_summary : OneSummary
+one_summary : (kind number : ℕ) (entries : List Entry) (first second : List ℕ) → All IsEntrySound entries
+    → IsSummary kind number entries first → IsSummary kind number entries second → first ≡ second
 one_summary kind number entries first second sound a b =
     let ok = sound_queries entries sound in
     let shares = same_shares kind (planned_queries entries) a.1.0 b.1.0 ok a.1.1 b.1.1 in
     let totals : a.0 ≡ b.0 = a.1.2 ∙ ap (totals_of (planned_queries entries)) shares ∙ sym b.1.2 in
     a.2 ∙ ap (summary_line number) totals ∙ sym b.2
+
+-- the entries are those of one file
+same_entries : (read : Result (List Entry) FileFault) (xs ys : List Entry) → read ≡ Ok xs → read ≡ Ok ys → ys ≡ xs
+same_entries read xs ys a b = cc
+
+pub one_sample : OneSample
+one_sample kind number first second a b =
+    one_summary kind number a.0 first second a.2
+    a.3 (subst (λ (es : List Entry). IsSummary kind number es second) (same_entries (entries_of (workload_of number)) a.0 b.0 a.1 b.1) b.3)
