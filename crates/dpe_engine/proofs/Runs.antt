@@ -1,19 +1,15 @@
 -- From buffer to buffer.
-use Rattle.std.proofs.Common.{◌≡◌, ◌≢◌, ℕ, ◌+◌, ◌^◌, ◌<◌, ◌≤◌, ◌*◌, ◌⊎◌, inl, inr, ⊎_elim, min, Bool, List, [], ◌∷◌, ◌++◌, length, take, refl, sym, ap, ◌∙◌, subst, arith, length-append, append_assoc, append-nil, sum_by}
-use Rattle.std.proofs.lemmas.Bool.{cases_lt}
-use Rattle.std.proofs.lemmas.Nat.{mul-pow}
+use Rattle.std.proofs.Common.{◌≡◌, ◌≢◌, ℕ, ◌+◌, ◌^◌, ◌<◌, ◌≤◌, Bool, List, [], ◌∷◌, ◌++◌, length, take, refl, sym, ap, ◌∙◌, subst, arith, length-append, append_assoc, sum_by}
 use Rattle.std.proofs.lemmas.List.{take_all}
 use Rattle.std.proofs.lemmas.List.Sums.{sum_by-cons}
 use Rattle.dpe_base.specs.declared.pair.Pair.{Pair}
-use Rattle.dpe_base.specs.Queries.{relations}
 use Rattle.card_scaled.specs.Cards.{RowTable}
 use Rattle.memo_table.specs.Seats.{MemoTable, SeatView}
 use Rattle.reorder_buffer.specs.Buffers.{BufferedPairs}
 use Rattle.reorder_buffer.specs.Groups.{groups, groups_below, runs, rounds}
 use Rattle.reorder_buffer.proofs.RunLaws.{runs-none, taken_is_run}
-use Rattle.dpe_engine.specs.Between.{IsBetween, IsShared, MayWorkBuffer, HasWorkedBuffer, IsFilled, IsRunning, HasEnded, IsPrepared}
+use Rattle.dpe_engine.specs.Between.{IsBetween, MayWorkBuffer, HasWorkedBuffer, IsFilled, IsRunning, HasEnded, IsPrepared}
 use Rattle.dpe_engine.proofs.Advances.{list_few}
-use Rattle.dpe_engine.proofs.Places.{few_pairs}
 use Rattle.dpe_engine.proofs.Members.{length_take, take_more}
 
 -- the first run of a list that begins with a full buffer, or is a shorter one alone
@@ -27,40 +23,10 @@ no_groups : length (groups []) ≡ 0
 unfolding groups_below
 no_groups = refl
 
--- rooms that a list doesn't fill give the same runs
-short_runs : (b c : ℕ) (xs : List Pair) → length xs < b → length xs < c → runs b xs ≡ runs c xs
-short_runs b c [] h k = runs-none b (omega arith) ∙ sym (runs-none c (omega arith))
-short_runs b c (x ∷ xs) h k = alone b h ∙ sym (alone c k)
-  where
-    alone : (r : ℕ) → length (x ∷ xs) < r → runs r (x ∷ xs) ≡ (x ∷ xs) ∷ []
-    alone r short =
-        taken_is_run r (x ∷ xs) (x ∷ xs) [] (omega arith) (sym (append-nil (x ∷ xs))) (omega arith) (λ e. refl) (λ e. let n = ap (λ (l : List Pair). length l) e in absurd (omega arith))
-        ∙ ap (λ (l : List (List Pair)). (x ∷ xs) ∷ l) (runs-none r (omega arith))
-
--- a room for more than there are pairs of sets, unless it is what was asked for
-pub room_enough : (n sets buffer room : ℕ) → sets ≡ 2 ^ n → room ≡ min (sets * sets + 1) buffer → (room ≡ buffer) ⊎ (4 ^ n < room)
-room_enough n sets buffer room e is =
-    let pairs : 4 ^ n ≡ 2 ^ n * 2 ^ n = mul-pow 2 2 n in
-    let square : sets * sets ≡ 2 ^ n * 2 ^ n = ap (λ (k : ℕ). k * k) e in
-    elim (cases_lt (sets * sets + 1) buffer) [
-      | inl low ↦ inr (omega arith)
-      | inr high ↦ inl (omega arith)
-    ]
-
--- and it gives the runs that were asked for
-pub same_runs : (memo : MemoTable) (cards : RowTable) (workers room buffer n : ℕ) → IsShared memo cards workers → n ≡ relations memo.query → room ≤ buffer → (room ≡ buffer) ⊎ (4 ^ n < room) → runs buffer memo.pairs ≡ runs room memo.pairs
-same_runs memo cards workers room buffer n shared is fits enough =
-    let few = few_pairs memo.query memo.pairs shared.planned.query shared.planned.builds shared.ordered.once in
-    let same = ap (λ (k : ℕ). 4 ^ k) is in
-    ⊎_elim
-    (λ (e : room ≡ buffer). ap (λ (b : ℕ). runs b memo.pairs) (sym e))
-    (λ (more : 4 ^ n < room). short_runs buffer room memo.pairs (omega arith) (omega arith))
-    enough
-
 -- the first buffer is filled
-pub begins : (kind : ℕ) (memo : MemoTable) (cards : RowTable) (workers buffer : ℕ) (first first' second : BufferedPairs) (crew : List SeatView) (capacity : ℕ) (s : SeatView) (all left : List Pair) (ended : Bool)
-    → IsPrepared kind memo cards workers buffer first second crew capacity s → all ≡ memo.pairs → IsFilled all left ended first first' → IsRunning kind memo cards workers first.room 0 0 0 left ended first' second crew capacity s
-begins kind memo cards workers buffer first first' second crew capacity s all left ended p is f =
+pub begins : (kind : ℕ) (memo : MemoTable) (cards : RowTable) (workers : ℕ) (first first' second : BufferedPairs) (crew : List SeatView) (capacity : ℕ) (s : SeatView) (all left : List Pair) (ended : Bool)
+    → IsPrepared kind memo cards workers first second crew capacity s → all ≡ memo.pairs → IsFilled all left ended first first' → IsRunning kind memo cards workers first.room 0 0 0 left ended first' second crew capacity s
+begins kind memo cards workers first first' second crew capacity s all left ended p is f =
     let whole : memo.pairs ≡ first'.pairs ++ left = sym is ∙ f.taken in
     record {
       shared = p.shared;

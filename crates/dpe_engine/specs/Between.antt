@@ -90,10 +90,9 @@ pub record HasEnded (kind : ℕ) (memo : MemoTable) (cards : RowTable) (workers 
   pub all_rounds : turns ≡ rounds room memo.pairs
   pub has_ended : IsTrue ended
 
--- an engine before its run. Its buffers have the room that was asked for, or give the same runs
-pub record IsPrepared (kind : ℕ) (memo : MemoTable) (cards : RowTable) (workers buffer : ℕ) (first second : BufferedPairs) (crew : List SeatView) (capacity : ℕ) (s : SeatView) : Type 0 where
+-- an engine before its run
+pub record IsPrepared (kind : ℕ) (memo : MemoTable) (cards : RowTable) (workers : ℕ) (first second : BufferedPairs) (crew : List SeatView) (capacity : ℕ) (s : SeatView) : Type 0 where
   pub shared : IsShared memo cards workers
   pub between : IsBetween kind memo workers [] 0 s
   pub rooms : (1 ≤ first.room) × (second.room ≡ first.room)
-  pub same_runs : runs buffer memo.pairs ≡ runs first.room memo.pairs
   pub free : HasFreeCrew workers crew capacity

@@ -1,5 +1,5 @@
 //! A whole run: all pairs of a stream are worked, buffer by buffer.
-ghost use Rattle.std.specs.Prelude.{◌≡◌, ◌+◌, ◌*◌, ◌<◌, ◌≤◌, ◌^◌, ◌⊎◌, ℕ, IsTrue, IfOk, Contains, length, vec_capacity, slice_index_or};
+ghost use Rattle.std.specs.Prelude.{◌≡◌, ◌+◌, ◌*◌, ◌<◌, ◌≤◌, ◌^◌, ℕ, IsTrue, IfOk, Contains, length, vec_capacity, slice_index_or};
 ghost use Rattle.dpe_base.specs.declared.pair.Pair.{Pair};
 ghost use Rattle.dpe_base.specs.Queries.{relations};
 ghost use Rattle.join_graph.specs.Graphs.{Pairs, graph_of};
@@ -14,7 +14,7 @@ use crate::shared::Shared;
 use crate::steps::{Progress, fill_next, step};
 use card_scaled::CardTable;
 use cost_model::CostModel;
-use dpe_base::{N_MAX, Query};
+use dpe_base::Query;
 use memo_table::{Memo, MemoSeat, Words};
 use pair_stream::PairStream;
 use reorder_buffer::{Buffer, ROOM_MAX};
@@ -44,8 +44,6 @@ pub struct Engine<M: CostModel> {
     second: Buffer,
     crew: Vec<MemoSeat<M>>,
     seat: MemoSeat<M>,
-    // As asked for. The two buffers may have less room, where a list can't fill it.
-    buffer: u32,
 }
 
 impl<M: CostModel> Model for Engine<M> {
@@ -55,9 +53,9 @@ impl<M: CostModel> Model for Engine<M> {
 
     ghost Value = { EnginePlan };
 
-    ghost view = { λ e. record { query = e.shared.memo.query; pairs = e.shared.memo.pairs; buffer = e.buffer; workers = e.shared.workers } };
+    ghost view = { λ e. record { query = e.shared.memo.query; pairs = e.shared.memo.pairs; buffer = e.first.room; workers = e.shared.workers } };
 
-    ghost invariant = { λ e. IsPrepared M.KIND e.shared.memo e.shared.cards e.shared.workers e.buffer e.first e.second e.crew.items (vec_capacity e.crew) e.seat };
+    ghost invariant = { λ e. IsPrepared M.KIND e.shared.memo e.shared.cards e.shared.workers e.first e.second e.crew.items (vec_capacity e.crew) e.seat };
 }
 
 // Works all full buffers, and fills the next one meanwhile.
@@ -123,27 +121,13 @@ fn work_last_buffer<P: PairStream, M: CostModel, G: Gate, R: Threads + Sync>(
     }
 }
 
-// How many pairs there is room for: a pair is two sets, and a buffer that has room for one more than there are pairs of
-// sets is never full.
-fn room_for(n: u8, buffer: u32) -> u32
-    requires relations { n ≤ N_MAX }
-    requires some { 1 ≤ buffer }
-    ensures within { (1 ≤ result) × (result ≤ buffer) }
-    ensures enough { (result ≡ buffer) ⊎ (4 ^ n < result) }
-{
-    let sets = 1u64 << n;
-    let most = sets * sets + 1;
-    most.min(buffer as u64) as u32
-}
-
 impl<M: CostModel> Engine<M> {
     /// An engine for the pairs that the stream has left. The stream is only named: no pair is taken from it. Each pair
     /// is a csg-cmp-pair of the query, and stands after the pairs that build its sides.
     ///
     /// `buffer` is how many pairs are taken at once, 1 to `ROOM_MAX`, and `workers` how many seats work a group, 1 to 64.
     /// It takes all memory that `run` needs: the memo's word and the rows of each set, two buffers, and a seat for each
-    /// worker. Where there is not as much, it is an `AllocError`. The buffers have no more room than the pairs of so few
-    /// relations can fill.
+    /// worker. Where there is not as much, it is an `AllocError`.
     pub fn prepare<P: PairStream>(
         alloc: Global,
         query: &Query,
@@ -158,14 +142,13 @@ impl<M: CostModel> Engine<M> {
         requires ordered { Ordered (P.left stream.now) }
         ensures { IfOk result (λ e. e ≡ record { query = query.now; pairs = P.left stream.now; buffer = buffer; workers = workers }) }
     {
-        let n = query.n();
+        let _n = query.n();
         let (memo, mut seat) = Memo::make(alloc, query, stream)?;
         memo.drawn(&mut seat);
         let cards = CardTable::make(alloc, query)?;
         let crew = Vec::with_capacity(alloc, workers as usize)?;
-        let room = room_for(n, buffer);
-        let first = Buffer::with_capacity(alloc, room)?;
-        let second = Buffer::with_capacity(alloc, room)?;
+        let first = Buffer::with_capacity(alloc, buffer)?;
+        let second = Buffer::with_capacity(alloc, buffer)?;
         let shared = Shared {
             memo,
             model,
@@ -178,7 +161,6 @@ impl<M: CostModel> Engine<M> {
             second,
             crew,
             seat,
-            buffer,
         })
     }
 
@@ -219,7 +201,6 @@ impl<M: CostModel> Engine<M> {
             second,
             crew,
             seat,
-            buffer: _,
         } = self;
         let (stream, first) = fill_next(gate, 0, stream, first);
         let progress = Progress {

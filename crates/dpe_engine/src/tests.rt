@@ -3,46 +3,43 @@ ghost use Rattle.dpe_base.specs.Sets.{union, size};
 ghost use Rattle.dpe_engine.specs.Working.{IsPlanned};
 ghost use Rattle.dpe_engine.specs.Levels.{IsLevel};
 
+mod gates;
+mod observers;
+mod queries;
+mod rows;
+mod runs;
+
 use crate::{OpenGate, round};
 use card_scaled::CardTable;
 use cost_model::Ops;
-use dpe_base::{Pair, Pred, Query, Rel};
+use dpe_base::Pair;
 use join_graph::Graph;
 use memo_table::{Memo, MemoSeat};
 use pair_stream::{DpSub, collect_pairs};
+use queries::{Shape, query_of_ones};
 use std::alloc::{AllocError, Global};
 use std::test::Fail;
 use std::thread::Threads;
 
-// Four relations of one row each, in a chain.
-fn chain_of_ones(alloc: Global) -> Result<Query, Fail> {
-    let one = Rel {
-        rows: 1,
-        num: 1,
-        den: 1,
-    };
-    let first = Pred {
-        low: 0,
-        high: 1,
-        num: 1,
-        den: 1,
-    };
-    let second = Pred {
-        low: 1,
-        high: 2,
-        num: 1,
-        den: 1,
-    };
-    let third = Pred {
-        low: 2,
-        high: 3,
-        num: 1,
-        den: 1,
-    };
-    let rels = vec![in alloc; one, one, one, one]?;
-    let preds = vec![in alloc; first, second, third]?;
-    Ok(Query::new(rels, preds)?)
-}
+// The words of a chain of four relations of one row: each join costs two, by a loop with the lesser set left.
+const CHAIN_OF_FOUR: [u64; 16] = [
+    u64::MAX,
+    196_609,
+    196_610,
+    655_361,
+    196_612,
+    u64::MAX,
+    655_362,
+    1_179_649,
+    196_616,
+    u64::MAX,
+    u64::MAX,
+    u64::MAX,
+    655_364,
+    u64::MAX,
+    1_179_650,
+    1_703_937,
+];
 
 // The pairs whose union has so many relations.
 fn pairs_of_size(alloc: Global, pairs: &[Pair], count: u32) -> Result<Vec<Pair>, AllocError>
@@ -84,7 +81,7 @@ fn work_level<R: Threads + Sync>(
 
 #[test]
 fn two_workers_work_a_chain_of_four(rt: HostRuntime) -> Result<(), Fail> {
-    let query = chain_of_ones(rt.alloc())?;
+    let query = query_of_ones(rt.alloc(), Shape::Chain, 4)?;
     let _n = query.n();
     let graph = Graph::of(&query);
     let mut stream = DpSub::over(&graph);
@@ -107,28 +104,6 @@ fn two_workers_work_a_chain_of_four(rt: HostRuntime) -> Result<(), Fail> {
     let words = memo.finish(seat);
     // one ticket for each of ten pairs, and one past them for each worker in each round
     assert_eq!(rt; words.drawn(), 16);
-    // each join costs two, by a loop with the lesser set left
-    assert_eq!(rt;
-        words.row(),
-        [
-            u64::MAX,
-            196_609,
-            196_610,
-            655_361,
-            196_612,
-            u64::MAX,
-            655_362,
-            1_179_649,
-            196_616,
-            u64::MAX,
-            u64::MAX,
-            u64::MAX,
-            655_364,
-            u64::MAX,
-            1_179_650,
-            1_703_937,
-        ]
-        .as_slice()
-    );
+    assert_eq!(rt; words.row(), CHAIN_OF_FOUR.as_slice());
     Ok(())
 }

@@ -8,7 +8,7 @@ use Rattle.dpe_base.proofs.SizeLaws.{full_below}
 use Rattle.join_graph.specs.Graphs.{graph_of}
 use Rattle.join_tree.specs.declared.tree.Tree.{Tree}
 use Rattle.join_tree.specs.TreeOf.{tree_of}
-use Rattle.join_tree.specs.Trees.{Best, Least, Plan}
+use Rattle.join_tree.specs.Trees.{Least, Plan}
 use Rattle.join_tree.proofs.BestLaws.{least_best}
 use Rattle.join_tree.proofs.Existence.{connected_best}
 use Rattle.pair_stream.specs.Orders.{Complete}
@@ -52,9 +52,9 @@ pub run_plans : (kind : ℕ) (settings : Settings) (q : JoinQuery) (pairs : List
     → IsPlanOf kind settings q (record { tree = tree; pairs = count; stats = stats })
 run_plans kind settings q pairs e count filled worked looked n all tree stats is list complete counted fills turns looks said sized whole plan =
     let all_fills : filled ≡ length (runs settings.buffer (pairs_of settings.enumerator (graph_of q))) =
-        fills ∙ ap (λ (x : EnginePlan). length (runs x.buffer x.pairs)) is ∙ ap (λ (ps : List Pair). length (runs settings.buffer ps)) list in
+    fills ∙ ap (λ (x : EnginePlan). length (runs x.buffer x.pairs)) is ∙ ap (λ (ps : List Pair). length (runs settings.buffer ps)) list in
     let all_turns : worked ≡ rounds settings.buffer (pairs_of settings.enumerator (graph_of q)) =
-        turns ∙ ap (λ (x : EnginePlan). rounds x.buffer x.pairs) is ∙ ap (λ (ps : List Pair). rounds settings.buffer ps) list in
+    turns ∙ ap (λ (x : EnginePlan). rounds x.buffer x.pairs) is ∙ ap (λ (ps : List Pair). rounds settings.buffer ps) list in
     record {
       plan = subst (λ (s : ℕ). Plan kind q s (tree_of tree)) (whole ∙ ap full sized) plan;
       pairs = (pairs, complete, counted ∙ ap (λ (x : EnginePlan). length x.pairs) is);

@@ -1,5 +1,3 @@
-pub mod PairCount
-pub mod Planning
 pub mod Plans
 pub mod Reporting
 pub mod BestWords

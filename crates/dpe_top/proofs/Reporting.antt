@@ -1,31 +1,37 @@
 -- A report that grows entry by entry.
 use Rattle.std.proofs.lemmas.Option.{slice_get_within, get_or_from_slice_get}
-use Rattle.std.proofs.lemmas.Grind.{flat_map-append}
-use Rattle.std.proofs.lemmas.List.{append-nil, take_more}
+use Rattle.std.proofs.lemmas.List.{take_all, take_more}
 use Rattle.std.proofs.lemmas.List.Folds.{list_any-append, list_any-from_Any}
-use Rattle.std.proofs.Common.{◌≡◌, ◌+◌, ℕ, true, false, refl, sym, ◌∙◌, ap, List, [], ◌∷◌, ◌++◌, take, Some}
-use Rattle.std.specs.List.{flat_map, slice_get}
+use Rattle.std.proofs.Common.{arith, ◌≡◌, ◌+◌, ℕ, true, false, refl, sym, ◌∙◌, ap, subst, List, [], ◌∷◌, ◌++◌, length, take, Some}
+use Rattle.std.specs.List.{slice_get}
 use Rattle.query_json.specs.declared.entry.Entry.{Entry}
-use Rattle.plan_report.specs.declared.report.Format.TheVariants.{Text}
+use Rattle.plan_report.specs.declared.report.Format.{Format}
+use Rattle.plan_report.specs.declared.report.Format.TheVariants.{Text, Json}
 use Rattle.plan_report.specs.declared.report.Report.{Report}
 use Rattle.plan_report.specs.Entries.{ReportEntry}
-use Rattle.plan_report.specs.Texts.{entry_text}
-use Rattle.plan_report.specs.Reports.{Appends, format_of, text_in}
-use Rattle.dpe_top.specs.Reports.{IsPart, Says, is_refused, has_refused}
+use Rattle.plan_report.specs.Json.{report_line}
+use Rattle.plan_report.specs.Reports.{Appends, Holds, format_of, text_in, entries_in, report_bytes}
+use Rattle.plan_report.proofs.Holdings.{holds_none, holds_more}
+use Rattle.dpe_words.specs.declared.choices.Settings.{Settings}
+use Rattle.dpe_top.specs.Reports.{IsPart, IsReport, Says, is_refused, has_refused}
 
 -- the report says this of the first i entries
-pub record HasSaid (kind : ℕ) (entries : List Entry) (i : ℕ) (report : Report) : Type 0 where
+pub record HasSaid (settings : Settings) (entries : List Entry) (i : ℕ) (report : Report) : Type 0 where
   pub said : List ReportEntry
-  pub says : Says kind (take i entries) said
-  pub text : text_in report ≡ flat_map entry_text said
-  pub format : format_of report ≡ Text
+  pub says : Says settings (take i entries) said
+  pub holds : Holds report said
+  pub format : format_of report ≡ settings.format
 
-says_more : (kind : ℕ) (entries : List Entry) (said : List ReportEntry) (entry : Entry) (more : ReportEntry)
-    → Says kind entries said → IsPart kind entry.name entry.part more → Says kind (entries ++ (entry ∷ [])) (said ++ (more ∷ []))
-says_more kind [] [] entry more s p = (p, tt)
-says_more kind [] (x ∷ xs) entry more s p = absurd s
-says_more kind (e ∷ es) [] entry more s p = absurd s
-says_more kind (e ∷ es) (x ∷ xs) entry more s p = (s.0, says_more kind es xs entry more s.1 p)
+pub said_none : (settings : Settings) (entries : List Entry) (report : Report)
+    → format_of report ≡ settings.format → text_in report ≡ [] → entries_in report ≡ [] → HasSaid settings entries 0 report
+said_none settings entries report format text none = record { said = []; says = tt; holds = holds_none report text none; format = format }
+
+says_more : (settings : Settings) (entries : List Entry) (said : List ReportEntry) (entry : Entry) (more : ReportEntry)
+    → Says settings entries said → IsPart settings entry.name entry.part more → Says settings (entries ++ (entry ∷ [])) (said ++ (more ∷ []))
+says_more settings [] [] entry more s p = (p, tt)
+says_more settings [] (x ∷ xs) entry more s p = absurd s
+says_more settings (e ∷ es) [] entry more s p = absurd s
+says_more settings (e ∷ es) (x ∷ xs) entry more s p = (s.0, says_more settings es xs entry more s.1 p)
 
 -- the first entries and the next
 pub take_next : {X : Type 0} (xs : List X) (i : ℕ) (x : X) → slice_get xs i ≡ Some x → take (i + 1) xs ≡ take i xs ++ (x ∷ [])
@@ -33,15 +39,36 @@ take_next xs i x e =
     rw (← get_or_from_slice_get xs i x x e) (take_more xs i x (slice_get_within xs i x e))
 
 -- one entry more
-pub said_more : (kind : ℕ) (entries : List Entry) (i : ℕ) (old new : Report) (entry : Entry) (more : ReportEntry)
-    → HasSaid kind entries i old → slice_get entries i ≡ Some entry → IsPart kind entry.name entry.part more → Appends old new more → HasSaid kind entries (i + 1) new
-said_more kind entries i old new entry more has at part grown =
+pub said_more : (settings : Settings) (entries : List Entry) (i : ℕ) (old new : Report) (entry : Entry) (more : ReportEntry)
+    → HasSaid settings entries i old → slice_get entries i ≡ Some entry → IsPart settings entry.name entry.part more → Appends old new more → HasSaid settings entries (i + 1) new
+said_more settings entries i old new entry more has at part grown =
     record {
       said = has.said ++ (more ∷ []);
-      says = rw (take_next entries i entry at) (says_more kind (take i entries) has.said entry more has.says part);
-      text = grown.in_text has.format ∙ ap (λ t. t ++ entry_text more) has.text ∙ sym (flat_map-append entry_text has.said (more ∷ []) ∙ ap (λ t. flat_map entry_text has.said ++ t) (append-nil (entry_text more)));
+      says = rw (take_next entries i entry at) (says_more settings (take i entries) has.said entry more has.says part);
+      holds = holds_more old new has.said more grown has.holds;
       format = grown.format ∙ has.format;
     }
+
+-- all entries
+all_said : (settings : Settings) (entries : List Entry) (n : ℕ) (report : Report) → n ≡ length entries → (has : HasSaid settings entries n report) → Says settings entries has.said
+all_said settings entries n report whole has =
+    subst (λ (es : List Entry). Says settings es has.said) (take_all n entries (omega arith)) has.says
+
+pub reported_text : (settings : Settings) (entries : List Entry) (n : ℕ) (report : Report) (text : List ℕ)
+    → n ≡ length entries → HasSaid settings entries n report → settings.format ≡ Text → text ≡ text_in report → IsReport settings entries text
+reported_text settings entries n report text whole has format is = (
+  has.said,
+  all_said settings entries n report whole has,
+  subst (λ (f : Format). text ≡ report_bytes f has.said) (sym format) (is ∙ has.holds.in_text (has.format ∙ format)),
+)
+
+pub reported_json : (settings : Settings) (entries : List Entry) (n : ℕ) (report : Report) (text : List ℕ)
+    → n ≡ length entries → HasSaid settings entries n report → settings.format ≡ Json → text ≡ report_line (entries_in report) → IsReport settings entries text
+reported_json settings entries n report text whole has format is = (
+  has.said,
+  all_said settings entries n report whole has,
+  subst (λ (f : Format). text ≡ report_bytes f has.said) (sym format) (is ∙ ap report_line (has.holds.in_json (has.format ∙ format))),
+)
 
 pub refused_at : (entries : List Entry) (i : ℕ) (entry : Entry) → slice_get entries i ≡ Some entry → is_refused entry ≡ true → has_refused entries ≡ true
 refused_at entries i entry at refused =

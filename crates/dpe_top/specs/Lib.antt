@@ -1,5 +1,3 @@
-pub mod Words
-pub mod Planning
 pub mod Enumerations
 pub mod Plans
 pub mod Totals

@@ -21,8 +21,3 @@ fault_line fault = codes "input: " ++ (fault_text fault ++ newline)
 
 unfoldable pub too_long_line : List ℕ
 too_long_line = codes "input: more than 8388608 bytes" ++ newline
-
-unfoldable pub usage_line : List ℕ
-usage_line =
-    codes "usage: dpe [--mode M] [--enumerator E] [--buffer N] [--workers N] [--model M] [--format F] [--stats S] [--number N]"
-    ++ newline

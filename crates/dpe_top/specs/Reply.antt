@@ -1,47 +1,89 @@
 -- What is written for the words and the bytes, and the status.
-use Rattle.std.specs.Prelude.{◌≡◌, ◌+◌, ◌≤◌, ◌⊎◌, ℕ, Bool, false, List, length, nat_lt, if◌then◌else◌, Option, Some, None, IsSome, Result, Ok, Err, IsOk}
-use Rattle.std.specs.Io.KnownBytes.{Consumes, IsAtEnd}
+use Rattle.std.specs.Prelude.{◌≡◌, ◌+◌, ◌≤◌, ◌⊎◌, ℕ, Bool, false, List, length, nat_lt, if◌then◌else◌, Option, Some, None, Result, Ok, Err, IsOk}
+use Rattle.std.specs.Io.KnownBytes.{Appends, Consumes, IsAtEnd}
 use Rattle.io_edge.specs.Causes.{Rose}
-use Rattle.cost_model.specs.declared.model.ModelKind.{ModelKind}
 use Rattle.query_json.specs.declared.fault.FileFault.{FileFault}
 use Rattle.query_json.specs.declared.entry.Entry.{Entry}
 use Rattle.query_json.specs.Entries.{entries_of}
+use Rattle.cost_model.specs.declared.model.ModelKind.{ModelKind}
+use Rattle.dpe_words.specs.declared.choices.Mode.{Mode}
+use Rattle.dpe_words.specs.declared.choices.Mode.TheVariants.{Sample}
+use Rattle.dpe_words.specs.declared.choices.Settings.{Settings}
+use Rattle.dpe_words.specs.Line.{settings_of}
+use Rattle.dpe_words.specs.Usage.{usage_line}
 use Rattle.dpe_top.specs.declared.TheConstants.{INPUT_MAX}
 use Rattle.dpe_top.specs.declared.status.Status.{Status}
 use Rattle.dpe_top.specs.declared.status.Status.TheVariants.{Done, SomeRefused, Usage, Input, ReadFault, WriteFault, NoMemory}
-use Rattle.dpe_top.specs.Lines.{fault_line, too_long_line, usage_line}
-use Rattle.dpe_top.specs.Reports.{IsReport, has_refused}
-use Rattle.dpe_top.specs.Words.{model_of, kind_of}
+use Rattle.dpe_top.specs.Lines.{fault_line, too_long_line}
+use Rattle.dpe_top.specs.Reports.{IsReport, has_refused, kind_of}
+use Rattle.dpe_top.specs.Summary.{IsSample}
 
--- a report, or the one line in its place
+-- a report, the summary of the sample that a number gives, or the one line in their place
 pub data Answer : Type 0 where
-  report : ModelKind → List Entry → Answer
+  report : Settings → List Entry → Answer
+  summary : ModelKind → ℕ → Answer
   line : Status → List ℕ → Answer
 
-abbrev pub answer_of_file : ModelKind → Result (List Entry) FileFault → Answer
-answer_of_file model (Ok entries) = report model entries
-answer_of_file model (Err fault) = line Input (fault_line fault)
+abbrev pub answer_of_file : Settings → Result (List Entry) FileFault → Answer
+answer_of_file settings (Ok entries) = report settings entries
+answer_of_file settings (Err fault) = line Input (fault_line fault)
 
-abbrev pub answer_of_bytes : ModelKind → List ℕ → Answer
-answer_of_bytes model bytes =
-    if nat_lt INPUT_MAX (length bytes) then line Input too_long_line else answer_of_file model (entries_of bytes)
+abbrev pub answer_of_bytes : Settings → List ℕ → Answer
+answer_of_bytes settings bytes =
+    if nat_lt INPUT_MAX (length bytes) then line Input too_long_line else answer_of_file settings (entries_of bytes)
 
-abbrev pub answer_of_words : Option ModelKind → List ℕ → Answer
-answer_of_words (Some model) bytes = answer_of_bytes model bytes
-answer_of_words None bytes = line Usage usage_line
+-- what is to be done: to answer at once, or to read a workload and plan it
+pub data Task : Type 0 where
+  at_once : Answer → Task
+  workload : Settings → Task
+
+-- a sample comes from its number alone
+abbrev pub task_in : Mode → Settings → Task
+task_in Sample settings = at_once (summary settings.model settings.number)
+task_in mode settings = workload settings
+
+abbrev pub task_of : Option Settings → Task
+task_of None = at_once (line Usage usage_line)
+task_of (Some settings) = task_in settings.mode settings
+
+-- what the words ask for
+unfoldable pub task : List (List ℕ) → Task
+task words = task_of (settings_of words)
+
+-- the answer to the bytes of the source
+abbrev pub answer_to : Task → List ℕ → Answer
+answer_to (at_once said) bytes = said
+answer_to (workload settings) bytes = answer_of_bytes settings bytes
 
 -- the answer to the words and the bytes
-unfoldable pub answer : List (List ℕ) → List ℕ → Answer
-answer words bytes = answer_of_words (model_of words) bytes
+abbrev pub answer : List (List ℕ) → List ℕ → Answer
+answer words bytes = answer_to (task words) bytes
+
+-- the words give the answer, whatever the source has
+abbrev pub AtOnce : Task → (Answer → Type 0) → Type 0
+AtOnce (at_once said) P = P said
+AtOnce (workload settings) P = Unit {0}
+
+-- the words ask for a workload
+abbrev pub Reads : Task → Type 0
+Reads (at_once said) = ⊥
+Reads (workload settings) = Unit {0}
 
 abbrev pub status_of : Answer → Status
-status_of (report model entries) = if has_refused entries then SomeRefused else Done
+status_of (report settings entries) = if has_refused entries then SomeRefused else Done
+status_of (summary model number) = Done
 status_of (line status text) = status
 
 -- the text is the whole of the answer
 abbrev pub IsText : Answer → List ℕ → Type 0
-IsText (report model entries) text = IsReport (kind_of model) entries text
+IsText (report settings entries) text = IsReport settings entries text
+IsText (summary model number) text = IsSample (kind_of model) number text
 IsText (line status said) text = text ≡ said
+
+-- the status is that of the answer, whose text was appended
+pub record IsAnswered (said : Answer) (result : Status) (before now : Option (List ℕ)) : Type 0 where
+  pub status : result ≡ status_of said
+  pub text : (text : List ℕ) × IsText said text × Appends before now text
 
 -- a status with which the whole answer is written
 abbrev pub IsWhole : Status → Type 0
@@ -91,8 +133,8 @@ Took ReadFault before now = ⊥
 Took WriteFault before now = ⊥
 Took NoMemory before now = ⊥
 
--- the words are a command line, and the bytes a workload
+-- the words ask for a workload, and the bytes are one
 pub record IsWellFormed (words : List (List ℕ)) (bytes : List ℕ) : Type 0 where
-  pub line : IsSome (model_of words)
+  pub asked : Reads (task words)
   pub short : length bytes ≤ INPUT_MAX
   pub workload : IsOk (entries_of bytes)

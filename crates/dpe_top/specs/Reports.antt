@@ -1,9 +1,11 @@
 -- The report of a workload: one entry after the other, in the workload's order.
-use Rattle.std.specs.Prelude.{◌≡◌, ℕ, List, [], ◌∷◌, length, Bool, true, false, None}
+use Rattle.std.specs.Prelude.{◌≡◌, ℕ, List, [], ◌∷◌, length, Bool, true, false}
 use Rattle.std.specs.List.{list_any}
 use Rattle.dpe_base.specs.declared.pair.Pair.{Pair}
 use Rattle.dpe_base.specs.Queries.{relations}
 use Rattle.dpe_base.specs.Sets.{full}
+use Rattle.cost_model.specs.declared.model.ModelKind.{ModelKind}
+use Rattle.cost_model.specs.declared.model.ModelKind.TheVariants.{Ops, Cout}
 use Rattle.join_graph.specs.Graphs.{graph_of}
 use Rattle.join_tree.specs.Trees.{Plan}
 use Rattle.pair_stream.specs.Orders.{Complete}
@@ -11,32 +13,41 @@ use Rattle.query_json.specs.declared.entry.Entry.{Entry}
 use Rattle.query_json.specs.declared.entry.Named.{Named}
 use Rattle.query_json.specs.declared.entry.Part.{Part}
 use Rattle.query_json.specs.declared.entry.Part.TheVariants.{Accepted, Refused}
-use Rattle.plan_report.specs.declared.report.Format.TheVariants.{Text}
 use Rattle.plan_report.specs.Entries.{PlannedQuery, ReportEntry, planned, refused}
 use Rattle.plan_report.specs.Reports.{report_bytes}
+use Rattle.dpe_words.specs.declared.choices.Settings.{Settings}
+use Rattle.dpe_top.specs.Enumerations.{stats_of}
 
--- what is said of an accepted query: its plan over all its relations, and how many pairs it has
-pub record IsPlanned (kind : ℕ) (name : List ℕ) (named : Named) (said : PlannedQuery) : Type 0 where
-  pub plan : Plan kind named.query (full (relations named.query)) said.tree
+-- the number of the model in costs and words
+abbrev pub kind_of : ModelKind → ℕ
+kind_of Ops = 0
+kind_of Cout = 1
+
+-- what is said of an accepted query: its plan over all its relations, how many pairs it has, and statistics
+-- where they are asked for
+pub record IsPlanned (settings : Settings) (name : List ℕ) (named : Named) (said : PlannedQuery) : Type 0 where
+  pub plan : Plan (kind_of settings.model) named.query (full (relations named.query)) said.tree
   pub pairs : (all : List Pair) × Complete (graph_of named.query) all × (said.pairs ≡ length all)
-  pub rest : said ≡ record said { name = name; aliases = named.aliases; kind = kind; query = named.query; stats = None }
+  pub stats : said.stats ≡ stats_of settings (graph_of named.query)
+  pub rest : said ≡ record said { name = name; aliases = named.aliases; kind = kind_of settings.model; query = named.query }
 
-abbrev pub IsPart : ℕ → List ℕ → Part → ReportEntry → Type 0
-IsPart kind name (Accepted named) (planned said) = IsPlanned kind name named said
-IsPart kind name (Accepted named) (refused n why) = ⊥
-IsPart kind name (Refused why) (planned said) = ⊥
-IsPart kind name (Refused why) (refused n w) = (n ≡ name) × (w ≡ why)
+abbrev pub IsPart : Settings → List ℕ → Part → ReportEntry → Type 0
+IsPart settings name (Accepted named) (planned said) = IsPlanned settings name named said
+IsPart settings name (Accepted named) (refused n why) = ⊥
+IsPart settings name (Refused why) (planned said) = ⊥
+IsPart settings name (Refused why) (refused n w) = (n ≡ name) × (w ≡ why)
 
 -- what the report says of the entries, one by one
-abbrev pub Says : ℕ → List Entry → List ReportEntry → Type 0
-Says kind [] [] = Unit {0}
-Says kind [] (said ∷ more) = ⊥
-Says kind (entry ∷ entries) [] = ⊥
-Says kind (entry ∷ entries) (said ∷ more) = IsPart kind entry.name entry.part said × Says kind entries more
+abbrev pub Says : Settings → List Entry → List ReportEntry → Type 0
+Says settings [] [] = Unit {0}
+Says settings [] (said ∷ more) = ⊥
+Says settings (entry ∷ entries) [] = ⊥
+Says settings (entry ∷ entries) (said ∷ more) = IsPart settings entry.name entry.part said × Says settings entries more
 
--- the text is the report of the entries
-abbrev pub IsReport : ℕ → List Entry → List ℕ → Type 0
-IsReport kind entries text = (said : List ReportEntry) × Says kind entries said × (text ≡ report_bytes Text said)
+-- the text is the report of the entries, in the format that is asked for
+abbrev pub IsReport : Settings → List Entry → List ℕ → Type 0
+IsReport settings entries text =
+    (said : List ReportEntry) × Says settings entries said × (text ≡ report_bytes settings.format said)
 
 abbrev pub is_refused : Entry → Bool
 is_refused entry = elim entry.part [ Accepted named ↦ false | Refused why ↦ true ]

@@ -2,22 +2,19 @@
 #![tactic(auto)]
 
 mod call;
-mod gate;
 pub mod laws;
 mod lines;
 mod plan;
-mod planner;
 mod reply;
 mod report;
 mod status;
 mod summary;
 #[cfg(test)]
 mod tests;
-mod words;
 
 pub use call::dpe;
-pub use gate::{Gate, OpenGate};
-pub use lines::usage_line;
+pub use dpe_engine::{Gate, OpenGate};
+pub use dpe_words::usage_line;
 pub use status::Status;
 
 /// The most bytes of a workload.

@@ -1,6 +1,6 @@
 //! The lines that are written in place of a report.
 ghost use Rattle.std.specs.Prelude.{◌≡◌, ◌++◌, IfOk, OnOk, string_bytes};
-ghost use Rattle.dpe_top.specs.Lines.{fault_line, fault_text, too_long_line, usage_line};
+ghost use Rattle.dpe_top.specs.Lines.{fault_line, fault_text, too_long_line};
 
 use query_json::{FileFault, write_path};
 use std::alloc::{AllocError, Global};
@@ -41,12 +41,4 @@ pub fn too_long_line() -> &'static str
     ensures { result.now ≡ too_long_line }
 {
     "input: more than 8388608 bytes\n"
-}
-
-/// The line for words that are no command line.
-#[tactic(auto, unfolding(crate::specs::Lines::usage_line))]
-pub fn usage_line() -> &'static str
-    ensures { result.now ≡ usage_line }
-{
-    "usage: dpe [--mode M] [--enumerator E] [--buffer N] [--workers N] [--model M] [--format F] [--stats S] [--number N]\n"
 }

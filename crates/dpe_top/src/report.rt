@@ -3,87 +3,122 @@ ghost use Rattle.std.specs.Prelude.{◌≡◌, ℕ, length, take, OnOk, IfOk};
 ghost use Rattle.dpe_base.specs.Queries.{relations};
 ghost use Rattle.dpe_base.specs.Sets.{full};
 ghost use Rattle.join_graph.specs.Graphs.{Connected, graph_of};
+ghost use Rattle.dpe_words.specs.Line.{AreInRange};
 ghost use Rattle.plan_report.specs.Entries.{PlannedQuery, ReportEntry, planned};
 ghost use Rattle.plan_report.specs.Reports.{Appends};
 ghost use Rattle.query_json.specs.Sound.{IsEntrySound, IsSound};
-ghost use Rattle.dpe_top.specs.Reports.{IsPart, IsPlanned, IsReport, has_refused, is_refused};
-ghost use Rattle.dpe_top.specs.Words.{kind_of};
+ghost use Rattle.dpe_top.specs.Reports.{IsPart, IsPlanned, IsReport, has_refused, is_refused, kind_of};
 
-use crate::planner::words_over;
+use crate::plan::plan;
 use cost_model::{CostModel, Cout, ModelKind, Ops};
-use dpe_base::{Name, RelSet};
-use enum_dpccp::DpCcp;
-use join_graph::Graph;
-use plan_report::{Format, Report, build};
+use dpe_base::Name;
+use dpe_engine::Gate;
+use dpe_words::Settings;
+use plan_report::{Format, Report};
 use query_json::{Entry, Named, Part, Workload};
 use std::alloc::{AllocError, Global};
-use std::marker::Brand;
-use std::sync::ledger::Blank;
+use std::thread::Threads;
 
 /// Plans the query and appends its entry to the report.
-fn append_planned<M: CostModel>(
+fn append_planned<M: CostModel, G: Gate, R: Threads + Sync>(
+    rt: &R,
     alloc: Global,
     report: &mut Report,
     name: &Name,
     named: &Named,
-    model: &M,
+    model: M,
+    settings: &Settings,
+    gate: &G,
 ) -> Result<(), AllocError>
     requires sound { IsSound named.now }
-    ensures { OnOk result ((said : PlannedQuery) × IsPlanned M.KIND name.now named.now said
+    requires ranges { AreInRange settings.now }
+    requires model { kind_of settings.now.model ≡ M.KIND }
+    ensures { OnOk result ((said : PlannedQuery) × IsPlanned settings.now name.now named.now said
         × Appends report.old report.new (planned said)) }
 {
     let query = &named.query;
-    let pairs = DpCcp::over(&Graph::of(query));
-    let solved = words_over::<M, DpCcp, Brand>(alloc, query, model, pairs, Blank::new(1))?;
-    let all = RelSet::full(query.n());
-    let tree = build(alloc, query, model, solved.words.as_slice(), all)?;
+    let found = plan(rt, alloc, query, model, settings, gate)?;
     let aliases = named.aliases.as_slice();
-    report.planned(name, aliases, query, model, &tree, solved.pairs, None)
+    report.planned(
+        name,
+        aliases,
+        query,
+        &model,
+        &found.tree,
+        found.pairs,
+        found.stats,
+    )
 }
 
 /// Appends what the report says of the entry.
-fn append_entry<M: CostModel>(
+fn append_entry<M: CostModel, G: Gate, R: Threads + Sync>(
+    rt: &R,
     alloc: Global,
     report: &mut Report,
     entry: &Entry,
-    model: &M,
+    model: M,
+    settings: &Settings,
+    gate: &G,
 ) -> Result<(), AllocError>
     requires sound { IsEntrySound entry.now }
-    ensures { OnOk result ((said : ReportEntry) × IsPart M.KIND entry.now.name entry.now.part said
+    requires ranges { AreInRange settings.now }
+    requires model { kind_of settings.now.model ≡ M.KIND }
+    ensures { OnOk result ((said : ReportEntry) × IsPart settings.now entry.now.name entry.now.part said
         × Appends report.old report.new said) }
 {
     match &entry.part {
-        Part::Accepted(named) => append_planned(alloc, report, &entry.name, named, model),
+        Part::Accepted(named) => {
+            append_planned(rt, alloc, report, &entry.name, named, model, settings, gate)
+        }
         Part::Refused(why) => report.refused(&entry.name, why),
     }
 }
 
-/// The report of a workload as text.
-fn report_under<M: CostModel>(
+/// The report of a workload, in the format that the settings ask for.
+fn report_under<M: CostModel, G: Gate, R: Threads + Sync>(
+    rt: &R,
     alloc: Global,
     workload: &Workload,
-    model: &M,
+    model: M,
+    settings: &Settings,
+    gate: &G,
 ) -> Result<Vec<u8>, AllocError>
-    ensures { IfOk result (λ v. IsReport M.KIND workload.now v.items) }
+    requires ranges { AreInRange settings.now }
+    requires model { kind_of settings.now.model ≡ M.KIND }
+    ensures { IfOk result (λ v. IsReport settings.now workload.now v.items) }
 {
-    let mut report = Report::new(alloc, Format::Text);
-    for i in 0..workload.len() {
-        append_entry(alloc, &mut report, workload.entry(i), model)?;
+    let mut report = Report::new(alloc, settings.format);
+    'entries: for i in 0..workload.len() {
+        append_entry(
+            rt,
+            alloc,
+            &mut report,
+            workload.entry(i),
+            model,
+            settings,
+            gate,
+        )?;
     }
-    Ok(report.text())
+    match settings.format {
+        Format::Text => Ok(report.text()),
+        Format::Json => report.json(),
+    }
 }
 
-/// The report of a workload as text, with plans that are least by the model.
-pub fn report_of(
+/// The report of a workload, with plans that are least by the settings' model.
+pub fn report_of<G: Gate, R: Threads + Sync>(
+    rt: &R,
     alloc: Global,
     workload: &Workload,
-    model: ModelKind,
+    settings: &Settings,
+    gate: &G,
 ) -> Result<Vec<u8>, AllocError>
-    ensures { IfOk result (λ v. IsReport (kind_of model) workload.now v.items) }
+    requires { AreInRange settings.now }
+    ensures { IfOk result (λ v. IsReport settings.now workload.now v.items) }
 {
-    match model {
-        ModelKind::Ops => report_under(alloc, workload, &Ops),
-        ModelKind::Cout => report_under(alloc, workload, &Cout),
+    match settings.model {
+        ModelKind::Ops => report_under(rt, alloc, workload, Ops, settings, gate),
+        ModelKind::Cout => report_under(rt, alloc, workload, Cout, settings, gate),
     }
 }
 

@@ -5,9 +5,9 @@ ghost use Rattle.dpe_base.specs.Sets.{full};
 ghost use Rattle.join_graph.specs.Graphs.{Connected, graph_of};
 ghost use Rattle.query_json.specs.Sound.{IsEntrySound};
 ghost use Rattle.dpe_words.specs.Line.{AreInRange};
+ghost use Rattle.dpe_top.specs.Reports.{kind_of};
 ghost use Rattle.dpe_top.specs.Summary.{AreTotals, IsSample, IsShare, IsSummary, summary_line};
 ghost use Rattle.dpe_top.specs.Totals.{AreAtMost, with_query};
-ghost use Rattle.dpe_top.specs.Words.{kind_of};
 
 use crate::plan::plan;
 use cost_model::{CostModel, Cout, ModelKind, Ops};

@@ -1,7 +1,14 @@
 mod files;
+mod formats;
+mod gates;
+mod hostile;
+mod observers;
 mod plans;
 mod refusals;
 mod samples;
+mod shapes;
+mod sizes;
+mod words;
 
 use crate::{OpenGate, Status, dpe};
 use io_edge::{MemSink, MemSource};

@@ -3,7 +3,6 @@ use Rattle.std.proofs.Common.{◌≡◌, ℕ, sym, ◌∙◌, ap, true, List, []
 use Rattle.std.specs.List.{flat_map}
 use Rattle.dpe_base.specs.declared.pair.Pair.{Pair}
 use Rattle.join_graph.specs.Graphs.{JoinGraph, pair_of}
-use Rattle.pair_stream.specs.Streams.{is_over}
 use Rattle.enum_dpccp.specs.declared.sides.FirstSides.{FirstSides}
 use Rattle.enum_dpccp.specs.declared.sides.SecondSides.{SecondSides}
 use Rattle.enum_dpccp.specs.Dpccp.{first_sides, second_sides, seq_dpccp}
@@ -34,6 +33,3 @@ first_taken g f f' before a s s' es ef en =
 pub none_left : (g : JoinGraph) (f : FirstSides) (a : ℕ) (s : SecondSides) → second_left g s ≡ [] → first_left g f ≡ [] → dpccp_left g f a s ≡ []
 unfolding dpccp_left
 none_left g f a s es ef = ap (λ bs. map (pair_of a) bs ++ pairs_of_firsts g (first_left g f)) es ∙ ap (pairs_of_firsts g) ef
-
-pub over_from_empty : (pairs : List Pair) → pairs ≡ [] → is_over pairs ≡ true
-over_from_empty pairs e = ap is_over e

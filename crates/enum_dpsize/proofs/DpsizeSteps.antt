@@ -7,7 +7,6 @@ use Rattle.std.proofs.lemmas.List.{drop_all}
 use Rattle.dpe_base.specs.declared.pair.Pair.{Pair}
 use Rattle.join_graph.specs.Graphs.{JoinGraph}
 use Rattle.pair_stream.specs.Parts.{part}
-use Rattle.pair_stream.specs.Streams.{is_over}
 use Rattle.enum_dpsize.specs.Dpsize.{IsDpsizeState, NextSizes, pairs_sized, rows_from, start_at, dpsize_left, seq_dpsize}
 use Rattle.enum_dpsize.proofs.RowLaws.{row_begins}
 use Rattle.enum_dpsize.proofs.PartLists.{parts_length, part_read}
@@ -161,9 +160,6 @@ pub over_here : (g : JoinGraph) (s k : ℕ) (xs ys : List ℕ) (i j : ℕ) → x
 over_here g s k xs ys i j ex ey e =
     subst (λ zs. rows_from g (part g (s - k)) (nat_eq k (s - k)) (drop i zs) j ≡ []) ex
     (subst (λ zs. rows_from g zs (nat_eq k (s - k)) (drop i xs) j ≡ []) ey e)
-
-pub over_from_empty : (pairs : List Pair) → pairs ≡ [] → is_over pairs ≡ true
-over_from_empty pairs e = ap is_over e
 
 pub step_sizes : (g : JoinGraph) (parts : List (List ℕ)) (s k i j n s' k' j' : ℕ) → IsDpsizeState g parts s k → n ≡ g.n → rows_at g s k i j ≡ [] → NextSizes s k n (Some (s', k')) → j' ≡ start_at (nat_eq k' (s' - k')) 0 → IsDpsizeState g parts s' k' × (dpsize_left g s k i j ≡ dpsize_left g s' k' 0 j')
 step_sizes g parts s k i j n s' k' j' f en e next ej =

@@ -69,3 +69,17 @@ fn the_streams_of_std_are_a_source_and_a_sink(rt: HostRuntime) -> Result<(), Fai
     assert_eq!(rt; write_all(&mut sink, read.as_slice()), Ok(()));
     Ok(())
 }
+
+#[test]
+fn a_writer_of_std_gets_the_bytes_until_it_is_full(rt: HostRuntime) -> Result<(), Fail> {
+    let alloc = rt.alloc();
+    let mut kept: Vec<u8> = Vec::new(alloc);
+    let mut sink = StdSink::over(&mut kept);
+    assert_eq!(rt; write_all(&mut sink, TEXT), Ok(()));
+    assert_eq!(rt; kept.as_slice(), TEXT);
+    let mut room = [0; 4];
+    let mut sink = StdSink::over(room.as_mut_slice());
+    assert_eq!(rt; write_all(&mut sink, TEXT), Err(WriteFault));
+    assert_eq!(rt; &room, b"abcd");
+    Ok(())
+}

@@ -12,7 +12,6 @@ use Rattle.join_graph.specs.Graphs.{JoinGraph, IsGraph, Connected, pair_of}
 use Rattle.pair_stream.specs.Subsets.{least, subsets_after, IsNextWithLeast}
 use Rattle.pair_stream.specs.Connectivity.{is_connected}
 use Rattle.pair_stream.specs.Orders.{Ordered, Complete}
-use Rattle.pair_stream.specs.Streams.{is_over}
 use Rattle.pair_stream.specs.Dpsub.{is_split, splits_of, seq_dpsub, dpsub_left}
 use Rattle.pair_stream.proofs.SubsetLaws.{subsets_skip, subsets_last, least_is}
 use Rattle.pair_stream.proofs.NextWithLeast.{next_with_least}
@@ -147,9 +146,6 @@ fewer_subsets f s a t n = omega (arith, n.greater, within_le t s n.within)
 
 pub split_taken : (g : JoinGraph) (left : List Pair) (s a t b : ℕ) → left ≡ dpsub_left g s a → IsNextWithLeast a s t → true ≡ is_split g s t → b ≡ minus s t → left ≡ pair_of t b ∷ dpsub_left g s t
 split_taken g left s a t b e n h eb = e ∙ left_pair g s a t n (sym h) ∙ ap (λ (k : ℕ). pair_of t k ∷ dpsub_left g s t) (sym eb)
-
-pub over_from_empty : (pairs : List Pair) → pairs ≡ [] → is_over pairs ≡ true
-over_from_empty pairs e = ap is_over e
 
 pub none_left : (g : JoinGraph) (left : List Pair) (s a : ℕ) → left ≡ dpsub_left g s a → a ≡ s → full g.n ≤ s → (left ≡ []) × (dpsub_left g s a ≡ [])
 none_left g left s a e same l = (e ∙ none, none)

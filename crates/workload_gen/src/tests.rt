@@ -4,7 +4,7 @@ use rand_core::{Rng, SeedableRng};
 use rand_xoshiro::Xoshiro256PlusPlus;
 use std::test::Fail;
 
-// The values that the Rust crate `rand` keeps for this generator and seed.
+// The words that SplitMix64 and xoshiro256++ give for this seed, computed by another program.
 #[test]
 fn first_words_of_seed_zero(rt: HostRuntime) {
     let mut rng = Xoshiro256PlusPlus::seed_from_u64(0);

@@ -1,7 +1,6 @@
 use super::answer;
-use super::files::{file_of, numbered_file};
+use super::files::file_of;
 use crate::Status;
-use std::alloc::{AllocError, Global};
 use std::test::Fail;
 
 /// A query over tables of the same names, and the report of its plan.
@@ -91,72 +90,8 @@ fn small_queries_get_their_best_plans(rt: HostRuntime) -> Result<(), Fail> {
     Ok(())
 }
 
-/// The report of a plan that joins one relation after the other to the rest, the relation on the left.
-fn one_by_one(
-    alloc: Global,
-    name: &str,
-    order: &[u8],
-    operator: &str,
-    rows: u64,
-    step: u64,
-    pairs: u64,
-) -> Result<String, AllocError> {
-    let mut text = String::new(alloc);
-    let mut cost = step.saturating_mul((order.len() as u64).saturating_sub(1));
-    writeln!(text, "query {name}")?;
-    writeln!(text, "cost {cost} rows {rows} pairs {pairs}")?;
-    let mut indent = String::new(alloc);
-    for r in order {
-        if cost > 0 {
-            let before = indent.as_str();
-            writeln!(text, "{before}{operator} rows {rows} cost {cost}")?;
-            indent.push_str("  ")?;
-        }
-        let before = indent.as_str();
-        writeln!(text, "{before}scan r{r} rows {rows}")?;
-        cost = cost.saturating_sub(step);
-    }
-    Ok(text)
-}
-
-#[test]
-fn sixteen_relations_are_planned(rt: HostRuntime) -> Result<(), Fail> {
-    let alloc = rt.alloc();
-    let mut chain = Vec::new(alloc);
-    let mut star = Vec::new(alloc);
-    for i in 1..16 {
-        chain.push((i - 1, i))?;
-        star.push((0, i))?;
-    }
-    let mut cycle = chain.as_slice().to_vec(alloc)?;
-    cycle.push((0, 15))?;
-    let ascending: [u8; 16] = [0, 1, 2, 3, 4, 5, 6, 7, 8, 9, 10, 11, 12, 13, 14, 15];
-    let centre_late: [u8; 16] = [1, 2, 3, 4, 5, 6, 7, 8, 9, 10, 11, 12, 13, 14, 0, 15];
-    let many = 1_099_511_627_776;
-    let cases: [(&str, &[(u8, u8)], u64, &[u8], &str, u64, u64); 3] = [
-        (
-            "chain",
-            chain.as_slice(),
-            many,
-            &ascending,
-            "hash",
-            4 * many,
-            680,
-        ),
-        ("cycle", cycle.as_slice(), 1, &ascending, "loop", 2, 1800),
-        ("star", star.as_slice(), 1, &centre_late, "loop", 2, 245760),
-    ];
-    for (name, joins, rows, order, operator, step, pairs) in cases {
-        let file = numbered_file(alloc, name, 16, rows, joins)?;
-        let (status, written) = answer(&rt, alloc, &[], file.into_bytes())?;
-        assert_eq!(rt; status, Status::Done, "{name}");
-        let text = one_by_one(alloc, name, order, operator, rows, step, pairs)?;
-        assert_eq!(rt; written.as_slice(), text.as_bytes(), "{name}");
-    }
-    Ok(())
-}
-
-const TRADE: &str = "{\"tables\":[\
+/// Six tables of a trader, with their columns, and a query over them.
+pub const TRADE: &str = "{\"tables\":[\
 {\"name\":\"region\",\"rows\":5,\"columns\":[{\"name\":\"regionkey\",\"distinct\":5}]},\
 {\"name\":\"nation\",\"rows\":25,\"columns\":[{\"name\":\"nationkey\",\"distinct\":25},{\"name\":\"regionkey\",\"distinct\":5}]},\
 {\"name\":\"customer\",\"rows\":150000,\"columns\":[{\"name\":\"custkey\",\"distinct\":150000},{\"name\":\"nationkey\",\"distinct\":25}]},\

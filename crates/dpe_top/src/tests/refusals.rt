@@ -4,43 +4,21 @@ use crate::{INPUT_MAX, OpenGate, Status, dpe};
 use io_edge::{MemSink, MemSource};
 use std::test::Fail;
 
-const USAGE: &str =
-    "usage: dpe [--mode M] [--enumerator E] [--buffer N] [--workers N] [--model M] [--format F] [--stats S] [--number N]\n";
-
-#[test]
-fn other_words_are_no_command_line(rt: HostRuntime) -> Result<(), Fail> {
-    let alloc = rt.alloc();
-    let lines: [&[&str]; 7] = [
-        &["--model"],
-        &["--model", "hash"],
-        &["--model=cout"],
-        &["--model", "ops", "--model", "ops"],
-        &["--workers", "0"],
-        &["--enumerator", "dphyp"],
-        &["stray"],
-    ];
-    for words in lines {
-        let (status, written) = answer(&rt, alloc, words, Vec::new(alloc))?;
-        assert_eq!(rt; status, Status::Usage, "{words:?}");
-        assert_eq!(rt; written.as_slice(), USAGE.as_bytes(), "{words:?}");
-    }
-    Ok(())
-}
+/// A query in two parts, and one of two relations.
+pub const SPLIT_AND_EVEN: &str = "{\"tables\":[{\"name\":\"a\",\"rows\":10},{\"name\":\"b\",\"rows\":10},{\"name\":\"c\",\"rows\":10},{\"name\":\"d\",\"rows\":10}],\
+\"queries\":[{\"name\":\"split\",\"relations\":[{\"alias\":\"a\",\"table\":\"a\"},{\"alias\":\"b\",\"table\":\"b\"},{\"alias\":\"c\",\"table\":\"c\"},{\"alias\":\"d\",\"table\":\"d\"}],\
+\"joins\":[{\"left\":\"a\",\"right\":\"b\",\"selectivity\":[1,10]},{\"left\":\"c\",\"right\":\"d\",\"selectivity\":[1,10]}]},\
+{\"name\":\"even\",\"relations\":[{\"alias\":\"a\",\"table\":\"a\"},{\"alias\":\"b\",\"table\":\"b\"}],\"joins\":[{\"left\":\"a\",\"right\":\"b\",\"selectivity\":[1,1]}]}]}";
 
 #[test]
 fn refused_queries_are_named(rt: HostRuntime) -> Result<(), Fail> {
     let alloc = rt.alloc();
-    let split =
-        "{\"tables\":[{\"name\":\"a\",\"rows\":10},{\"name\":\"b\",\"rows\":10},{\"name\":\"c\",\"rows\":10},{\"name\":\"d\",\"rows\":10}],\
-\"queries\":[{\"name\":\"split\",\"relations\":[{\"alias\":\"a\",\"table\":\"a\"},{\"alias\":\"b\",\"table\":\"b\"},{\"alias\":\"c\",\"table\":\"c\"},{\"alias\":\"d\",\"table\":\"d\"}],\
-\"joins\":[{\"left\":\"a\",\"right\":\"b\",\"selectivity\":[1,10]},{\"left\":\"c\",\"right\":\"d\",\"selectivity\":[1,10]}]},\
-{\"name\":\"even\",\"relations\":[{\"alias\":\"a\",\"table\":\"a\"},{\"alias\":\"b\",\"table\":\"b\"}],\"joins\":[{\"left\":\"a\",\"right\":\"b\",\"selectivity\":[1,1]}]}]}";
     let twice = "{\"tables\":[{\"name\":\"a\",\"rows\":1}],\"queries\":[{\"name\":\"twice\",\
 \"relations\":[{\"alias\":\"a\",\"table\":\"a\"},{\"alias\":\"a\",\"table\":\"a\"},{\"alias\":\"b\",\"table\":\"x\"}]}]}";
     let big = numbered_file(alloc, "big", 17, 1, &[])?;
     let cases: [(&str, &str); 3] = [
         (
-            split,
+            SPLIT_AND_EVEN,
             "query split\nrefused 9: relation c is not connected\nquery even\ncost 130 rows 100 pairs 1\nhash rows 100 cost 130\n  scan a rows 10\n  scan b rows 10\n",
         ),
         (twice, "query twice\nrefused 3: alias a twice\n"),

@@ -17,7 +17,7 @@ pub returns : goal.returns
 returns g c =
     let laws = g.met.P.PairStream g.world.𝓛 g.world.𝓜 g.world.𝓡 ((λ s x. x), (λ x. x), (λ x. x), λ x. x) in
     let looked : c.probes.result ≡ probes_of c.args.settings.now.enumerator (graph_of c.args.query.now) =
-        c.probes.ensures ∙ (laws.at_end c.run-solved.result.1 c.run-solved.ensures.ended).1 ∙ c.run-solved.ensures.total ∙ c.requires.total in
+    c.probes.ensures ∙ (laws.at_end c.run-solved.result.1 c.run-solved.ensures.ended).1 ∙ c.run-solved.ensures.total ∙ c.requires.total in
     run_plans g.M.CostModel.KIND c.args.settings.now c.args.query.now (g.P.PairStream.left c.args.stream) c.in_ok-engine.engine
     c.run-solved.result.0.pairs c.run-solved.result.0.buffers c.run-solved.result.0.rounds c.probes.result c.n.result c.full-all.result c.in_ok-tree.tree c.stats_in-stats.result
     c.in_ok-engine.ensures c.requires.list c.requires.complete c.run-solved.ensures.pairs c.run-solved.ensures.buffers c.run-solved.ensures.rounds

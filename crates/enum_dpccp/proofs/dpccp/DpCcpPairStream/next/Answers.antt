@@ -1,6 +1,7 @@
 use Rattle.std.proofs.Common.{◌∙◌}
+use Rattle.pair_stream.specs.Streams.{over_from_empty}
 use Rattle.enum_dpccp.specs.Left.{dpccp_left}
-use Rattle.enum_dpccp.proofs.DpccpSteps.{pair_taken, first_taken, none_left, over_from_empty}
+use Rattle.enum_dpccp.proofs.DpccpSteps.{pair_taken, first_taken, none_left}
 use Rattle.enum_dpccp.proofs.dpccp.DpCcpPairStream.next.Goals as goal
 
 pub returns-in-Some-clause-pair : goal.returns-in-Some-clause-pair
