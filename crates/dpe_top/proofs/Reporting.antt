@@ -34,7 +34,7 @@ says_more settings (e ∷ es) [] entry more s p = absurd s
 says_more settings (e ∷ es) (x ∷ xs) entry more s p = (s.0, says_more settings es xs entry more s.1 p)
 
 -- the first entries and the next
-take_next : {X : Type 0} (xs : List X) (i : ℕ) (x : X) → slice_get xs i ≡ Some x → take (i + 1) xs ≡ take i xs ++ (x ∷ [])
+pub take_next : {X : Type 0} (xs : List X) (i : ℕ) (x : X) → slice_get xs i ≡ Some x → take (i + 1) xs ≡ take i xs ++ (x ∷ [])
 take_next xs i x e =
     rw (← get_or_from_slice_get xs i x x e) (take_more xs i x (slice_get_within xs i x e))
 

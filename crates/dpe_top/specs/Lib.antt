@@ -1,6 +1,9 @@
 pub mod Enumerations
 pub mod Plans
+pub mod Totals
+pub mod Summary
 pub mod Reports
 pub mod Lines
 pub mod Reply
 pub mod Replies
+pub mod Laws

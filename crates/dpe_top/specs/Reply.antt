@@ -5,6 +5,9 @@ use Rattle.io_edge.specs.Causes.{Rose}
 use Rattle.query_json.specs.declared.fault.FileFault.{FileFault}
 use Rattle.query_json.specs.declared.entry.Entry.{Entry}
 use Rattle.query_json.specs.Entries.{entries_of}
+use Rattle.cost_model.specs.declared.model.ModelKind.{ModelKind}
+use Rattle.dpe_words.specs.declared.choices.Mode.{Mode}
+use Rattle.dpe_words.specs.declared.choices.Mode.TheVariants.{Sample}
 use Rattle.dpe_words.specs.declared.choices.Settings.{Settings}
 use Rattle.dpe_words.specs.Line.{settings_of}
 use Rattle.dpe_words.specs.Usage.{usage_line}
@@ -12,11 +15,13 @@ use Rattle.dpe_top.specs.declared.TheConstants.{INPUT_MAX}
 use Rattle.dpe_top.specs.declared.status.Status.{Status}
 use Rattle.dpe_top.specs.declared.status.Status.TheVariants.{Done, SomeRefused, Usage, Input, ReadFault, WriteFault, NoMemory}
 use Rattle.dpe_top.specs.Lines.{fault_line, too_long_line}
-use Rattle.dpe_top.specs.Reports.{IsReport, has_refused}
+use Rattle.dpe_top.specs.Reports.{IsReport, has_refused, kind_of}
+use Rattle.dpe_top.specs.Summary.{IsSample}
 
--- a report, or the one line in its place
+-- a report, the summary of the sample that a number gives, or the one line in their place
 pub data Answer : Type 0 where
   report : Settings → List Entry → Answer
+  summary : ModelKind → ℕ → Answer
   line : Status → List ℕ → Answer
 
 abbrev pub answer_of_file : Settings → Result (List Entry) FileFault → Answer
@@ -32,9 +37,14 @@ pub data Task : Type 0 where
   at_once : Answer → Task
   workload : Settings → Task
 
+-- a sample comes from its number alone
+abbrev pub task_in : Mode → Settings → Task
+task_in Sample settings = at_once (summary settings.model settings.number)
+task_in mode settings = workload settings
+
 abbrev pub task_of : Option Settings → Task
 task_of None = at_once (line Usage usage_line)
-task_of (Some settings) = workload settings
+task_of (Some settings) = task_in settings.mode settings
 
 -- what the words ask for
 unfoldable pub task : List (List ℕ) → Task
@@ -61,11 +71,13 @@ Reads (workload settings) = Unit {0}
 
 abbrev pub status_of : Answer → Status
 status_of (report settings entries) = if has_refused entries then SomeRefused else Done
+status_of (summary model number) = Done
 status_of (line status text) = status
 
 -- the text is the whole of the answer
 abbrev pub IsText : Answer → List ℕ → Type 0
 IsText (report settings entries) text = IsReport settings entries text
+IsText (summary model number) text = IsSample (kind_of model) number text
 IsText (line status said) text = text ≡ said
 
 -- the status is that of the answer, whose text was appended

@@ -4,15 +4,16 @@ ghost use Rattle.std.specs.Io.KnownBytes.{Appends, Keeps};
 ghost use Rattle.io_edge.specs.Causes.{Rose};
 ghost use Rattle.dpe_words.specs.Line.{AreInRange, IsLine, texts_of};
 ghost use Rattle.dpe_top.specs.Replies.{Replies};
-ghost use Rattle.dpe_top.specs.Reply.{AtOnce, IsAnswered, IsReported, IsText, IsWellFormed, IsWhole, MayEnd, Reads, Took, answer, answer_of_bytes, task};
+ghost use Rattle.dpe_top.specs.Reply.{AtOnce, IsAnswered, IsReported, IsText, IsWellFormed, IsWhole, MayEnd, Reads, Took, answer, answer_of_bytes, summary, task};
 
 use crate::INPUT_MAX;
 use crate::lines::{fault_line, too_long_line};
 use crate::reply::Reply;
 use crate::report::{has_refused, report_of};
 use crate::status::Status;
+use crate::summary::sample;
 use dpe_engine::Gate;
-use dpe_words::{Settings, WordFault, settings, usage_line};
+use dpe_words::{Mode, Settings, WordFault, settings, usage_line};
 use io_edge::{ReadEnd, Sink, Source, read_all, write_all};
 use query_json::FileFault;
 use std::alloc::{AllocError, Global};
@@ -73,6 +74,23 @@ fn read_reply<R: Threads + Sync, S: Source, G: Gate>(
     }
 }
 
+/// The summary of the sample workload that the settings' number gives.
+fn summary_reply<R: Threads + Sync, G: Gate>(
+    rt: &R,
+    alloc: Global,
+    settings: &Settings,
+    gate: &G,
+) -> Result<Reply, AllocError>
+    requires ranges { AreInRange settings.now }
+    ensures said { IfOk result (Replies (summary settings.now.model settings.now.number)) }
+    ensures done { IfOk result (λ r. r.status ≡ Status.Done) }
+{
+    Ok(Reply {
+        status: Status::Done,
+        text: sample(rt, alloc, settings, gate)?,
+    })
+}
+
 /// The answer to the words over the source.
 #[tactic(auto, unfolding(crate::specs::Reply::task))]
 fn reply_to<R: Threads + Sync, S: Source, G: Gate>(
@@ -92,7 +110,10 @@ fn reply_to<R: Threads + Sync, S: Source, G: Gate>(
     ensures complete { IfOk result (λ r. IfSome (S.left source.old) (λ bytes. IsWellFormed (texts_of words.now) bytes → IsReported r.status)) }
 {
     match settings(alloc, words) {
-        Ok(settings) => read_reply(rt, alloc, &settings, source, gate),
+        Ok(settings) => match settings.mode {
+            Mode::Sample => Ok(summary_reply(rt, alloc, &settings, gate)?),
+            _ => read_reply(rt, alloc, &settings, source, gate),
+        },
         Err(WordFault::Usage) => Ok(Reply {
             status: Status::Usage,
             text: usage_line().as_bytes().to_vec(alloc)?,
@@ -137,6 +158,10 @@ pub fn dpe<R: Threads + Sync, S: Source, K: Sink, G: Gate>(
     ensures complete { IfSome (S.left source.old) (λ bytes. IsWellFormed (texts_of words.now) bytes
         → (Rose (S.faults source.old) (S.faults source.new) → ⊥) → (Rose (K.faults sink.old) (K.faults sink.new) → ⊥)
         → IsReported result ⊎ (result ≡ Status.NoMemory)) }
+
+    // Where the words alone decide, so is their answer given.
+    ensures given { AtOnce (task (texts_of words.now)) (λ said. (Rose (K.faults sink.old) (K.faults sink.new) → ⊥)
+        → IsAnswered said result (K.held sink.old) (K.held sink.new) ⊎ (result ≡ Status.NoMemory)) }
 {
     let reply = match reply_to(rt, alloc, words, source, gate) {
         Ok(reply) => reply,

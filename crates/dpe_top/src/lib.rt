@@ -2,11 +2,13 @@
 #![tactic(auto)]
 
 mod call;
+pub mod laws;
 mod lines;
 mod plan;
 mod reply;
 mod report;
 mod status;
+mod summary;
 #[cfg(test)]
 mod tests;
 

@@ -5,6 +5,7 @@ mod hostile;
 mod observers;
 mod plans;
 mod refusals;
+mod samples;
 mod shapes;
 mod sizes;
 mod words;

@@ -10,7 +10,7 @@ use Rattle.cost_model.specs.declared.model.ModelKind.TheVariants.{Ops, Cout}
 use Rattle.dpe_base.specs.declared.kind.Kind.{Kind}
 use Rattle.dpe_base.specs.declared.kind.Kind.TheVariants.{DpCcp, DpSub, DpSize, DpSva}
 use Rattle.dpe_words.specs.declared.choices.Mode.{Mode}
-use Rattle.dpe_words.specs.declared.choices.Mode.TheVariants.{Plan}
+use Rattle.dpe_words.specs.declared.choices.Mode.TheVariants.{Plan, Sample}
 use Rattle.plan_report.specs.declared.report.Format.{Format}
 use Rattle.plan_report.specs.declared.report.Format.TheVariants as format
 
@@ -19,6 +19,7 @@ use Rattle.plan_report.specs.declared.report.Format.TheVariants as format
 abbrev pub modes : List (Text × Mode)
 modes =
     (codes "plan", Plan)
+    ∷ (codes "sample", Sample)
     ∷ []
 
 abbrev pub enumerators : List (Text × Kind)

@@ -27,7 +27,7 @@ fn settings_of(alloc: Global, words: &[&str]) -> Result<Settings, WordFault> {
 #[test]
 fn words_that_are_no_line(rt: HostRuntime) -> Result<(), Fail> {
     let alloc = rt.alloc();
-    let lines: [&[&str]; 30] = [
+    let lines: [&[&str]; 32] = [
         &["--workers", "0"],
         &["--workers", "65"],
         &["--workers", "four"],
@@ -41,6 +41,8 @@ fn words_that_are_no_line(rt: HostRuntime) -> Result<(), Fail> {
         &["--mode", "plan", "--mode", "plan"],
         &["--mode=plan", "--mode", "plan"],
         &["--mode", "unheard"],
+        &["--mode", "certify"],
+        &["--mode", "sample", "--format", "xml"],
         &["--mode", "--"],
         &["plan"],
         &["--", "plan"],
@@ -72,7 +74,7 @@ fn words_that_are_no_line(rt: HostRuntime) -> Result<(), Fail> {
 #[test]
 fn lines_and_their_settings(rt: HostRuntime) -> Result<(), Fail> {
     let alloc = rt.alloc();
-    let lines: [(&[&str], Settings); 8] = [
+    let lines: [(&[&str], Settings); 9] = [
         (&[], DEFAULTS),
         (&["--"], DEFAULTS),
         (
@@ -102,6 +104,14 @@ fn lines_and_their_settings(rt: HostRuntime) -> Result<(), Fail> {
                 enumerator: Kind::DpSub,
                 workers: 1,
                 buffer: 1,
+                ..DEFAULTS
+            },
+        ),
+        (
+            &["--mode", "sample", "--number", "7"],
+            Settings {
+                mode: Mode::Sample,
+                number: 7,
                 ..DEFAULTS
             },
         ),

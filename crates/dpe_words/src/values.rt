@@ -14,6 +14,7 @@ pub fn mode_of(text: Option<&str>) -> Option<Mode>
 {
     match text {
         None | Some("plan") => Some(Mode::Plan),
+        Some("sample") => Some(Mode::Sample),
         Some(_) => None,
     }
 }

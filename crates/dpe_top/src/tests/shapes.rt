@@ -19,6 +19,7 @@ static WORDS: [&[&str]; 8] = [
 
 /// A query over relations of as many rows each, with joins that keep all. Its plan joins one relation after the
 /// other to the rest, the relation on the left.
+#[derive(Clone, Copy)]
 pub struct Shape<'a> {
     name: &'a str,
     joins: &'a [(u8, u8)],

@@ -1,0 +1,104 @@
+-- A number and a model have one summary.
+use Rattle.std.proofs.Common.{◌≡◌, ◌<◌, ◌≤◌, ℕ, true, false, ◌&&◌, Bool, refl, sym, ◌∙◌, ap, subst, arith, List, [], ◌∷◌, length, Some, None, Option, Result, Ok}
+use Rattle.std.specs.Prelude.{All, nat_eq}
+use Rattle.std.specs.Bool.{Decides}
+use Rattle.std.proofs.lemmas.Bool.Decides.{nat_tests}
+use Rattle.std.specs.List.{Contains}
+use Rattle.std.specs.Cmp.{decided}
+use Rattle.std.proofs.lemmas.List.Elements.{All-head, All-tail, All-cons, All-nil}
+use Rattle.std.proofs.lemmas.Map.Made.{is_member-Decides, length-le_from_is_member, IsDistinct-from_AllPairs}
+use Rattle.dpe_base.specs.declared.pair.Pair.{Pair}
+use Rattle.dpe_base.specs.Queries.{JoinQuery, relations, IsQuery}
+use Rattle.dpe_base.specs.Sets.{full}
+use Rattle.join_graph.specs.Graphs.{JoinGraph, graph_of}
+use Rattle.join_tree.specs.Trees.{cost}
+use Rattle.join_tree.proofs.OnePlan.{plan_same}
+use Rattle.pair_stream.specs.Orders.{Complete}
+use Rattle.query_json.specs.declared.entry.Entry.{Entry}
+use Rattle.query_json.specs.declared.entry.Part.{Part}
+use Rattle.query_json.specs.declared.entry.Part.TheVariants.{Accepted, Refused}
+use Rattle.query_json.specs.declared.fault.FileFault.{FileFault}
+use Rattle.query_json.specs.Entries.{entries_of}
+use Rattle.workload_gen.specs.Values.{workload_of}
+use Rattle.query_json.specs.Sound.{IsEntrySound, IsPartSound}
+use Rattle.dpe_top.specs.declared.summary.Share.{Share}
+use Rattle.dpe_top.specs.declared.summary.Totals.{Totals}
+use Rattle.dpe_top.specs.Laws.{OneCount, OneSample}
+use Rattle.dpe_top.specs.Summary.{IsShare, AreShares, IsSummary, planned_queries, query_in, totals_of, summary_line}
+
+pair_eq : Pair → Pair → Bool
+pair_eq p q = nat_eq p.a q.a && nat_eq p.b q.b
+
+same_pair : (p q : Pair) → p.a ≡ q.a → p.b ≡ q.b → p ≡ q
+same_pair p q e f = ap (λ (x : ℕ). record { a = x; b = p.b }) e ∙ ap (λ (y : ℕ). record { a = q.a; b = y }) f
+
+pair_decides : (p q : Pair) → Decides (pair_eq p q) (p ≡ q)
+unfolding pair_eq
+pair_decides p q = (λ e. same_pair p q (first (nat_eq p.a q.a) refl e) (second (nat_eq p.a q.a) (nat_eq p.b q.b) refl e), λ e. subst (λ (x : Pair). pair_eq p x ≡ true) e (itself p))
+  where
+    first : (x : Bool) → nat_eq p.a q.a ≡ x → (x && nat_eq p.b q.b) ≡ true → p.a ≡ q.a
+    first true e t = grind (arith, nat_tests)
+    first false e t = absurd cc
+
+    second : (x y : Bool) → nat_eq p.b q.b ≡ y → (x && y) ≡ true → p.b ≡ q.b
+    second true true e t = grind (arith, nat_tests)
+    second true false e t = absurd cc
+    second false y e t = absurd cc
+
+    itself : (p : Pair) → (nat_eq p.a p.a && nat_eq p.b p.b) ≡ true
+    itself p = grind (arith, nat_tests)
+
+no_longer : (g : JoinGraph) (first second : List Pair) → Complete g first → Complete g second → length first ≤ length second
+no_longer g first second a b =
+    length-le_from_is_member (decided pair_eq pair_decides) first second (IsDistinct-from_AllPairs pair_decides first a.once)
+    (λ p m. (is_member-Decides pair_decides second p).1 ((b.members p).1 ((a.members p).0 ((is_member-Decides pair_decides first p).0 m))))
+
+pub one_count : OneCount
+one_count g first second a b = omega (arith, no_longer g first second a b, no_longer g second first b a)
+
+same_share : (x y : Share) → x.pairs ≡ y.pairs → x.cost ≡ y.cost → x ≡ y
+same_share x y e f = ap (λ (k : ℕ). record { pairs = k; cost = x.cost }) e ∙ ap (λ (k : ℕ). record { pairs = y.pairs; cost = k }) f
+
+one_share : (kind : ℕ) (q : JoinQuery) (x y : Share) → IsQuery q → IsShare kind q x → IsShare kind q y → x ≡ y
+one_share kind q x y ok a b =
+    same_share x y
+    (a.pairs.2 ∙ one_count (graph_of q) a.pairs.0 b.pairs.0 a.pairs.1 b.pairs.1 ∙ sym b.pairs.2)
+    (a.plan.2 ∙ ap (cost kind q) (plan_same kind q (full (relations q)) a.plan.0 b.plan.0 ok a.plan.1 b.plan.1) ∙ sym b.plan.2)
+
+ap_cons : {A : Type 0} (x y : A) (xs ys : List A) → x ≡ y → xs ≡ ys → x ∷ xs ≡ y ∷ ys
+ap_cons x y xs ys e f = cc
+
+same_shares : (kind : ℕ) (queries : List JoinQuery) (first second : List Share) → All IsQuery queries → AreShares kind queries first → AreShares kind queries second → first ≡ second
+same_shares kind [] [] [] ok a b = refl
+same_shares kind [] [] (y ∷ ys) ok a b = absurd b
+same_shares kind [] (x ∷ xs) second ok a b = absurd a
+same_shares kind (q ∷ qs) [] second ok a b = absurd a
+same_shares kind (q ∷ qs) (x ∷ xs) [] ok a b = absurd b
+same_shares kind (q ∷ qs) (x ∷ xs) (y ∷ ys) ok a b =
+    ap_cons x y xs ys (one_share kind q x y (All-head IsQuery q qs ok) a.0 b.0) (same_shares kind qs xs ys (All-tail IsQuery q qs ok) a.1 b.1)
+
+queries_with : (entry : Entry) (rest : List Entry) (part : Part) → entry.part ≡ part → IsPartSound part → All IsQuery (planned_queries rest) → All IsQuery (planned_queries (entry ∷ rest))
+queries_with entry rest (Accepted named) e sound more = rw e (All-cons IsQuery named.query (planned_queries rest) sound.valid more)
+queries_with entry rest (Refused why) e sound more = rw e more
+
+sound_queries : (entries : List Entry) → All IsEntrySound entries → All IsQuery (planned_queries entries)
+sound_queries [] ok = All-nil IsQuery
+sound_queries (entry ∷ rest) ok =
+    queries_with entry rest entry.part refl (All-head IsEntrySound entry rest ok) (sound_queries rest (All-tail IsEntrySound entry rest ok))
+
+one_summary : (kind number : ℕ) (entries : List Entry) (first second : List ℕ) → All IsEntrySound entries
+    → IsSummary kind number entries first → IsSummary kind number entries second → first ≡ second
+one_summary kind number entries first second sound a b =
+    let ok = sound_queries entries sound in
+    let shares = same_shares kind (planned_queries entries) a.1.0 b.1.0 ok a.1.1 b.1.1 in
+    let totals : a.0 ≡ b.0 = a.1.2 ∙ ap (totals_of (planned_queries entries)) shares ∙ sym b.1.2 in
+    a.2 ∙ ap (summary_line number) totals ∙ sym b.2
+
+-- the entries are those of one file
+same_entries : (read : Result (List Entry) FileFault) (xs ys : List Entry) → read ≡ Ok xs → read ≡ Ok ys → ys ≡ xs
+same_entries read xs ys a b = cc
+
+pub one_sample : OneSample
+one_sample kind number first second a b =
+    one_summary kind number a.0 first second a.2
+    a.3 (subst (λ (es : List Entry). IsSummary kind number es second) (same_entries (entries_of (workload_of number)) a.0 b.0 a.1 b.1) b.3)

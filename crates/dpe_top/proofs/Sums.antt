@@ -1,0 +1,109 @@
+-- Sums that grow query by query.
+use Rattle.std.proofs.Common.{◌≡◌, ◌+◌, ◌*◌, ◌-◌, ◌^◌, ◌<◌, ◌≤◌, ℕ, refl, sym, ◌∙◌, ap, subst, arith, List, [], ◌∷◌, ◌++◌, take, length, Some, None}
+use Rattle.std.proofs.lemmas.List.{length-append, append-nil}
+use Rattle.std.proofs.lemmas.List.Elements.{filter_map-append, All-nil, All-push}
+use Rattle.std.proofs.lemmas.List.Sums.{sum_by_push}
+use Rattle.std.specs.Prelude.{All}
+use Rattle.std.specs.List.{filter_map, slice_get, sum_by}
+use Rattle.dpe_base.specs.Queries.{JoinQuery, relations}
+use Rattle.query_json.specs.declared.entry.Entry.{Entry}
+use Rattle.query_json.specs.declared.entry.Named.{Named}
+use Rattle.query_json.specs.declared.entry.Part.{Part}
+use Rattle.query_json.specs.declared.entry.Part.TheVariants.{Accepted, Refused}
+use Rattle.query_json.specs.Sound.{IsEntrySound}
+use Rattle.dpe_top.specs.declared.summary.Share.{Share}
+use Rattle.dpe_top.specs.declared.summary.Totals.{Totals}
+use Rattle.dpe_top.specs.Summary.{IsShare, AreShares, AreTotals, planned_queries, query_in, totals_of}
+use Rattle.dpe_top.specs.Totals.{AreAtMost, with_query}
+use Rattle.dpe_top.proofs.Reporting.{take_next}
+
+-- the sums over the first i entries
+pub record HasSummed (kind : ℕ) (entries : List Entry) (i : ℕ) (t : Totals) : Type 0 where
+  pub totals : AreTotals kind (take i entries) t
+  pub sound : All IsEntrySound (take i entries)
+  pub small : AreAtMost (2 ^ 64 * i) t
+
+sound_more : (entries : List Entry) (i : ℕ) (entry : Entry) → slice_get entries i ≡ Some entry → All IsEntrySound (take i entries) → IsEntrySound entry
+    → All IsEntrySound (take (i + 1) entries)
+sound_more entries i entry at sound more = rw (take_next entries i entry at) (All-push IsEntrySound (take i entries) entry sound more)
+
+shares_more : (kind : ℕ) (queries : List JoinQuery) (shares : List Share) (q : JoinQuery) (share : Share)
+    → AreShares kind queries shares → IsShare kind q share → AreShares kind (queries ++ (q ∷ [])) (shares ++ (share ∷ []))
+shares_more kind [] [] q share s p = (p, tt)
+shares_more kind [] (x ∷ xs) q share s p = absurd s
+shares_more kind (e ∷ es) [] q share s p = absurd s
+shares_more kind (e ∷ es) (x ∷ xs) q share s p = (s.0, shares_more kind es xs q share s.1 p)
+
+totals_more : (queries : List JoinQuery) (shares : List Share) (q : JoinQuery) (share : Share)
+    → with_query (totals_of queries shares) q share ≡ totals_of (queries ++ (q ∷ [])) (shares ++ (share ∷ []))
+totals_more queries shares q share =
+    rw (
+      length-append queries (q ∷ []),
+      sum_by_push relations queries q,
+      sum_by_push (λ (x : JoinQuery). length x.preds) queries q,
+      sum_by_push (λ (s : Share). s.pairs) shares share,
+      sum_by_push (λ (s : Share). s.cost) shares share,
+    ) refl
+
+queries_more : (entries : List Entry) (i : ℕ) (entry : Entry) (named : Named) → slice_get entries i ≡ Some entry → entry.part ≡ Accepted named
+    → planned_queries (take (i + 1) entries) ≡ planned_queries (take i entries) ++ (named.query ∷ [])
+queries_more entries i entry named at part =
+    rw (take_next entries i entry at, filter_map-append (λ (e : Entry). query_in e.part) (take i entries) (entry ∷ []), part) refl
+
+queries_same : (entries : List Entry) (i : ℕ) (entry : Entry) → slice_get entries i ≡ Some entry → query_in entry.part ≡ None
+    → planned_queries (take (i + 1) entries) ≡ planned_queries (take i entries)
+queries_same entries i entry at none =
+    rw (take_next entries i entry at, filter_map-append (λ (e : Entry). query_in e.part) (take i entries) (entry ∷ []), none) (append-nil _)
+
+pub summed_none : (kind : ℕ) (entries : List Entry) → HasSummed kind entries 0 (record { queries = 0; relations = 0; joins = 0; pairs = 0; cost = 0 })
+summed_none kind entries = record {
+  totals = ([], tt, refl);
+  sound = All-nil IsEntrySound;
+  small = record { queries = omega arith; relations = omega arith; joins = omega arith; pairs = omega arith; cost = omega arith };
+}
+
+-- there is room for one more
+pub summed_room : (kind : ℕ) (entries : List Entry) (i n : ℕ) (t : Totals) → HasSummed kind entries i t → i < n → n < 2 ^ 64
+    → AreAtMost (2 ^ 64 * (2 ^ 64 - 1)) t
+summed_room kind entries i n t has before few = record {
+  queries = omega (arith, has.small.queries);
+  relations = omega (arith, has.small.relations);
+  joins = omega (arith, has.small.joins);
+  pairs = omega (arith, has.small.pairs);
+  cost = omega (arith, has.small.cost);
+}
+
+pub small_more : (i a b : ℕ) → a ≤ 2 ^ 64 * i → b < 2 ^ 64 → a + b ≤ 2 ^ 64 * (i + 1)
+small_more i a b small fits = omega (arith)
+
+-- one query more
+pub summed_more : (kind : ℕ) (entries : List Entry) (i : ℕ) (old new : Totals) (entry : Entry) (named : Named) (share : Share)
+    → HasSummed kind entries i old → slice_get entries i ≡ Some entry → IsEntrySound entry → entry.part ≡ Accepted named → IsShare kind named.query share
+    → new ≡ with_query old named.query share → AreAtMost (2 ^ 64 * (i + 1)) new → HasSummed kind entries (i + 1) new
+summed_more kind entries i old new entry named share has at sound part is sums small = record {
+  totals =
+      (has.totals.0 ++ (share ∷ []),
+      rw (queries_more entries i entry named at part) (shares_more kind (planned_queries (take i entries)) has.totals.0 named.query share has.totals.1 is),
+      rw (queries_more entries i entry named at part)
+      (sums ∙ ap (λ (x : Totals). with_query x named.query share) has.totals.2 ∙ totals_more (planned_queries (take i entries)) has.totals.0 named.query share));
+  sound = sound_more entries i entry at has.sound sound;
+  small = small;
+}
+
+-- an entry that is refused
+pub summed_same : (kind : ℕ) (entries : List Entry) (i : ℕ) (t : Totals) (entry : Entry)
+    → HasSummed kind entries i t → slice_get entries i ≡ Some entry → IsEntrySound entry → query_in entry.part ≡ None → HasSummed kind entries (i + 1) t
+summed_same kind entries i t entry has at sound none = record {
+  totals =
+      (has.totals.0,
+      rw (queries_same entries i entry at none) has.totals.1,
+      rw (queries_same entries i entry at none) has.totals.2);
+  sound = sound_more entries i entry at has.sound sound;
+  small = record {
+    queries = omega (arith, has.small.queries);
+    relations = omega (arith, has.small.relations);
+    joins = omega (arith, has.small.joins);
+    pairs = omega (arith, has.small.pairs);
+    cost = omega (arith, has.small.cost);
+  };
+}

@@ -1,0 +1,67 @@
+-- The summary of a sample workload: sums over its planned queries.
+use Rattle.std.specs.Prelude.{◌≡◌, ℕ, List, [], ◌∷◌, ◌++◌, length, All, Option, Some, None, Ok, codes, decimal}
+use Rattle.std.specs.List.{filter_map, sum_by}
+use Rattle.dpe_base.specs.declared.pair.Pair.{Pair}
+use Rattle.dpe_base.specs.Queries.{JoinQuery, relations}
+use Rattle.dpe_base.specs.Sets.{full}
+use Rattle.join_graph.specs.Graphs.{graph_of}
+use Rattle.join_tree.specs.Trees.{JoinTree, Plan, cost}
+use Rattle.pair_stream.specs.Orders.{Complete}
+use Rattle.query_json.specs.declared.entry.Entry.{Entry}
+use Rattle.query_json.specs.declared.entry.Part.{Part}
+use Rattle.query_json.specs.declared.entry.Part.TheVariants.{Accepted, Refused}
+use Rattle.query_json.specs.Entries.{entries_of}
+use Rattle.query_json.specs.Sound.{IsEntrySound}
+use Rattle.workload_gen.specs.Values.{workload_of}
+use Rattle.dpe_top.specs.Lines.{newline}
+use Rattle.dpe_top.specs.declared.summary.Share.{Share}
+use Rattle.dpe_top.specs.declared.summary.Totals.{Totals}
+
+abbrev pub query_in : Part → Option JoinQuery
+query_in (Accepted named) = Some named.query
+query_in (Refused why) = None
+
+-- the queries that are planned: those that are not refused
+abbrev pub planned_queries : List Entry → List JoinQuery
+planned_queries entries = filter_map (λ e. query_in e.part) entries
+
+-- how many csg-cmp-pairs the query has, and what its plan costs
+pub record IsShare (kind : ℕ) (q : JoinQuery) (share : Share) : Type 0 where
+  pub pairs : (all : List Pair) × Complete (graph_of q) all × (share.pairs ≡ length all)
+  pub plan : (tree : JoinTree) × Plan kind q (full (relations q)) tree × (share.cost ≡ cost kind q tree)
+
+-- the same of each query, one by one
+abbrev pub AreShares : ℕ → List JoinQuery → List Share → Type 0
+AreShares kind [] [] = Unit {0}
+AreShares kind [] (share ∷ more) = ⊥
+AreShares kind (q ∷ rest) [] = ⊥
+AreShares kind (q ∷ rest) (share ∷ more) = IsShare kind q share × AreShares kind rest more
+
+-- the sums over the queries and their shares
+abbrev pub totals_of : List JoinQuery → List Share → Totals
+totals_of queries shares = record {
+  queries = length queries;
+  relations = sum_by relations queries;
+  joins = sum_by (λ q. length q.preds) queries;
+  pairs = sum_by (λ s. s.pairs) shares;
+  cost = sum_by (λ s. s.cost) shares;
+}
+
+unfoldable pub summary_line : ℕ → Totals → List ℕ
+summary_line number t =
+    codes "sample " ++ (decimal number ++ (codes " queries " ++ (decimal t.queries ++ (codes " relations " ++ (decimal t.relations
+    ++ (codes " joins " ++ (decimal t.joins ++ (codes " pairs " ++ (decimal t.pairs ++ (codes " cost " ++ (decimal t.cost ++ newline)))))))))))
+
+-- the totals of the entries' queries
+abbrev pub AreTotals : ℕ → List Entry → Totals → Type 0
+AreTotals kind entries t =
+    (shares : List Share) × AreShares kind (planned_queries entries) shares × (t ≡ totals_of (planned_queries entries) shares)
+
+-- the text is the summary of the entries, under the number that they come from
+abbrev pub IsSummary : ℕ → ℕ → List Entry → List ℕ → Type 0
+IsSummary kind number entries text = (t : Totals) × AreTotals kind entries t × (text ≡ summary_line number t)
+
+-- the text is the summary of the workload that the number gives, whose queries are connected and within the limits
+abbrev pub IsSample : ℕ → ℕ → List ℕ → Type 0
+IsSample kind number text =
+    (entries : List Entry) × (entries_of (workload_of number) ≡ Ok entries) × All IsEntrySound entries × IsSummary kind number entries text
