@@ -1,5 +1,5 @@
 -- Looking a name up among the labels of a list.
-use Rattle.std.proofs.Common.{◌≡◌, ◌∙◌, ℕ, ◌+◌, ◌<◌, ◌≤◌, Bool, true, false, not, cond, ltb, List, [], ◌∷◌, length, map, Option, Some, None, slice_get, get_or, is_some, IfSome, option_and_then, option_map, Bor, refl, sym, ap, arith, inl, inr}
+use Rattle.std.proofs.Common.{◌≡◌, ◌∙◌, ℕ, ◌+◌, Bool, true, not, cond, ltb, List, [], ◌∷◌, length, map, Option, Some, None, slice_get, get_or, is_some, IfSome, option_and_then, option_map, Bor, refl, sym, ap, inl, inr}
 use Rattle.std.specs.Prelude.{position, find}
 use Rattle.std.specs.Str.{bytes_eq}
 use Rattle.std.specs.List.{prefix_len, position_or_len}

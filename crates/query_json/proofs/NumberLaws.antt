@@ -1,5 +1,5 @@
 -- A number with a minus sign is no whole number from 0.
-use Rattle.std.proofs.Common.{◌≡◌, ◌^◌, ◌&&◌, Bool, true, false, cond, ℤ, Float, Option, Some, None, nat_lt, nat_le, refl}
+use Rattle.std.proofs.Common.{◌≡◌, ◌^◌, ◌&&◌, Bool, true, false, cond, ℤ, Float, Some, None, nat_lt, nat_le, refl}
 use Rattle.std.specs.Prelude.{option_and_then}
 use Rattle.std.specs.Float.{binary64, float_is_finite}
 use Rattle.fast_float.specs.Text.{Parts, digits_of, nearest, with_sign}

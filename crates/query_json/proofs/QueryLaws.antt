@@ -1,9 +1,9 @@
 -- What is made of a query's items without a refusal is a query within the limits.
-use Rattle.std.proofs.Common.{◌≡◌, ◌≢◌, ◌∙◌, ℕ, ◌+◌, ◌<◌, ◌≤◌, min, max, Bool, true, false, not, cond, ltb, ◌&&◌, List, [], ◌∷◌, length, get_or, All, Result, Ok, Err, Option, Some, None, IfErr, IsOk, rules, nat_le, position, find, arith, refl, sym, ap, subst, inl, inr}
-use Rattle.std.specs.Prelude.{option_and_then, slice_get}
-use Rattle.std.specs.List.{list_all, prefix_len, position_or_len}
+use Rattle.std.proofs.Common.{◌≡◌, ◌≢◌, ◌∙◌, ℕ, ◌+◌, ◌<◌, ◌≤◌, min, max, Bool, true, not, List, [], ◌∷◌, length, get_or, All, Result, Ok, Err, Option, Some, None, IfErr, IsOk, rules, position, find, arith, refl, sym, ap, subst, inl, inr}
+use Rattle.std.specs.Prelude.{option_and_then}
+use Rattle.std.specs.List.{list_all, prefix_len}
 use Rattle.std.specs.Str.{bytes_eq}
-use Rattle.std.proofs.lemmas.Bool.{cases_Bool, cases_eq, cases_lt, and_parts, leb-true, le-leb, lt-ltb, le-ltb, ne_eqb}
+use Rattle.std.proofs.lemmas.Bool.{cases_Bool, and_parts, le-leb, lt-ltb, le-ltb, ne_eqb}
 use Rattle.std.proofs.lemmas.Bool.Decides.{nat_tests}
 use Rattle.std.proofs.lemmas.Option.{option_and_then_some}
 use Rattle.std.proofs.lemmas.Slice.Eq.{bytes_eq-Decides}
@@ -26,7 +26,6 @@ use Rattle.query_json.specs.declared.refusal.FracPlace.TheVariants as place
 use Rattle.query_json.specs.declared.refusal.QueryRefusal.{QueryRefusal}
 use Rattle.query_json.specs.declared.refusal.QueryRefusal.TheVariants.{BadFraction, SelfJoin, UnknownAlias, UnknownColumn}
 use Rattle.query_json.specs.declared.scope.Ends.{Ends}
-use Rattle.query_json.specs.Answer.{◌>>=◌}
 use Rattle.query_json.specs.Columns.{distinct_in}
 use Rattle.query_json.specs.Limits.{IsColumnWithin, IsQueryWithin, IsTableWithin}
 use Rattle.query_json.specs.Queries.{aliases_of, all_of, apart, checked, count_named, count_of, ends_of, filter_of, found, fraction_at, most_distinct, pred_of, query_of, rel_of, relation_number, selectivity_of, sized, table_named, table_of}

@@ -1,5 +1,5 @@
 -- Looking into a tree of json finds what looking into the data that it stands for finds.
-use Rattle.std.proofs.Common.{◌≡◌, ◌∙◌, ◌&&◌, ℕ, List, [], ◌∷◌, map, Bool, true, false, cond, true≢false, Option, Some, None, is_some, option_map, Result, Ok, Err, Bor, Vec, refl, sym, ap}
+use Rattle.std.proofs.Common.{◌≡◌, ◌∙◌, ◌&&◌, ℕ, List, [], ◌∷◌, Bool, true, false, cond, true≢false, Option, Some, None, is_some, option_map, Ok, Err, Bor, Vec, refl, sym, ap}
 use Rattle.std.specs.Prelude.{option_and_then}
 use Rattle.std.specs.Str.{bytes_eq}
 use Rattle.std.proofs.lemmas.Slice.Eq.{bytes_eq-Decides}
@@ -10,10 +10,9 @@ use Rattle.json.specs.Value as view
 use Rattle.json.specs.declared.value.Value.{Value}
 use Rattle.json.specs.declared.value.Value as tree
 use Rattle.json.proofs.Trees.{view-Array}
-use Rattle.serde_json.specs.Data.{Num, Data, number, array, object, Items, item, Members, no_members, put}
+use Rattle.serde_json.specs.Data.{Num, Data, number, array, object, item, Members, no_members, put}
 use Rattle.serde_json.specs.Find.{get, get_member, as_null, as_str, as_array, as_object}
 use Rattle.serde_json.specs.Read.{max_depth, number_of, of_json, of_items, of_members, read}
-use Rattle.serde_json.specs.View.{items_of}
 use Rattle.serde_json.proofs.Views.{get_member-put, get_member-put_other}
 use Rattle.query_json.specs.declared.fault.FileFault.TheVariants.{NotJson}
 use Rattle.query_json.specs.Walk.{or_not_json}

@@ -1,7 +1,7 @@
 -- A relation that no walk reaches is parted from the first by a set that no predicate leads out of.
-use Rattle.std.proofs.Common.{◌≡◌, ◌≢◌, ◌∙◌, ℕ, zero, suc, ◌+◌, ◌^◌, ◌<◌, ◌≤◌, Bool, true, false, ◌==◌, ◌&&◌, ◌⊎◌, inl, inr, List, [], ◌∷◌, length, get_or, zero-add, Option, Some, None, slice_get, arith, refl, sym, ap, subst}
+use Rattle.std.proofs.Common.{◌≡◌, ◌≢◌, ◌∙◌, ℕ, zero, suc, ◌+◌, ◌^◌, ◌<◌, ◌≤◌, Bool, true, false, ◌==◌, ◌&&◌, inl, inr, List, [], ◌∷◌, length, get_or, zero-add, Some, None, slice_get, arith, refl, sym, ap, subst}
 use Rattle.std.specs.Prelude.{Any, find, position}
-use Rattle.std.specs.List.{list_all, list_any, range_with_len, position_or_len}
+use Rattle.std.specs.List.{list_all, range_with_len, position_or_len}
 use Rattle.std.proofs.lemmas.Bool.{cases_Bool, cases_eq, cases_lt, and_parts, eqb-true, eq-eqb, lt-ltb}
 use Rattle.std.proofs.lemmas.List.FromFn.{get_or-range_with_len, length-range_with_len}
 use Rattle.std.proofs.lemmas.List.Folds.{Any-from_list_any, find_at, list_any_at}
@@ -14,7 +14,7 @@ use Rattle.dpe_base.specs.Sets.{Has, Within, Disjoint, member, union, minus, sin
 use Rattle.dpe_base.proofs.SetLaws.{sets, same_set, member-same, member-minus, member-above}
 use Rattle.dpe_base.proofs.NextSubset.{within_le}
 use Rattle.dpe_base.proofs.SizeLaws.{some_member, union_add, full_below}
-use Rattle.join_graph.specs.Graphs.{JoinGraph, Edge, Crossed, Connected, IsGraph, IsFirstUnreached, Reached, start, step, graph_of}
+use Rattle.join_graph.specs.Graphs.{Edge, Crossed, Connected, IsFirstUnreached, Reached, start, step, graph_of}
 use Rattle.join_graph.specs.Laws.{Ends}
 use Rattle.join_graph.proofs.Crossings.{edge_iff}
 use Rattle.join_graph.proofs.Edges.{graph_is}

@@ -1,5 +1,5 @@
 -- What the walk makes sure of: the limits of the numbers and lists that a query takes over.
-use Rattle.std.specs.Prelude.{ℕ, ◌≤◌, List, length, All}
+use Rattle.std.specs.Prelude.{◌≤◌, length, All}
 use Rattle.dpe_base.specs.declared.TheConstants.{INPUT_CAP, PREDS_MAX}
 use Rattle.query_json.specs.declared.file.Column.{Column}
 use Rattle.query_json.specs.declared.file.Table.{Table}

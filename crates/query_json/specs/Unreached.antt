@@ -1,5 +1,5 @@
 -- The first relation that the predicates don't connect with relation 0.
-use Rattle.std.specs.Prelude.{ℕ, ◌^◌, ◌==◌, ◌&&◌, List, Bool, Option, find}
+use Rattle.std.specs.Prelude.{ℕ, ◌^◌, ◌==◌, ◌&&◌, Bool, Option, find}
 use Rattle.std.specs.List.{list_all, list_any, range_with_len}
 use Rattle.dpe_base.specs.Queries.{JoinQuery, relations}
 use Rattle.dpe_base.specs.Sets.{member}

@@ -49,7 +49,11 @@ fn lists_of<'t, 'a>(
     Ok((rels, preds))
 }
 
-fn query_of<'t, 'a>(alloc: Global, tables: &'t Tables<'t, 'a>, item: &'t QueryItem<'a>) -> Result<Query, Stop>
+fn query_of<'t, 'a>(
+    alloc: Global,
+    tables: &'t Tables<'t, 'a>,
+    item: &'t QueryItem<'a>,
+) -> Result<Query, Stop>
     requires within { All IsTableWithin tables.now }
     requires few { IsQueryWithin item.now }
     ensures value { Tells (λ q. q) result (query_of tables.entry.now item.entry.now) }

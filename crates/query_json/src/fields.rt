@@ -46,10 +46,7 @@ fn as_name<'a>(value: &Value<'a>) -> Option<Label<'a>>
 }
 
 /// A name that must be there: a string of 1 to [`NAME_MAX`] bytes without control characters. `Shape` of the place if not.
-pub fn name_of<'v, 'a>(
-    member: Option<&'v Value<'a>>,
-    place: Place,
-) -> Result<Label<'a>, FileFault>
+pub fn name_of<'v, 'a>(member: Option<&'v Value<'a>>, place: Place) -> Result<Label<'a>, FileFault>
     ensures { Gives result (required as_name place (option_map (λ v. seen v.now) member.entry)) }
 {
     let Some(value) = member else {

@@ -63,7 +63,11 @@ impl<'a> Element<'a> for Table<'a> {
     fn read(alloc: Global, outer: u64, at: u64, value: &Value<'a>) -> Result<Self, FileFault> {
         object_of(value, place(Site::Table, at, 0))?;
         let name = name_of(member(value, "name"), place(Site::TableName, at, 0))?;
-        let rows = whole_of(member(value, "rows"), INPUT_CAP, place(Site::TableRows, at, 0))?;
+        let rows = whole_of(
+            member(value, "rows"),
+            INPUT_CAP,
+            place(Site::TableRows, at, 0),
+        )?;
         let columns = columns_of(alloc, at, member(value, "columns"))?;
         Ok(Table {
             name,

@@ -1,7 +1,6 @@
 use Rattle.std.proofs.Common.{◌∙◌, Some, ap, sym}
-use Rattle.json.proofs.Trees.{view-Array}
 use Rattle.serde_json.specs.Find.{as_array}
-use Rattle.query_json.specs.Tree.{data_of, seen, seen_items}
+use Rattle.query_json.specs.Tree.{seen, seen_items}
 use Rattle.query_json.proofs.TreeLaws.{seen_array}
 use Rattle.query_json.proofs.tree.items_of.Goals as goal
 

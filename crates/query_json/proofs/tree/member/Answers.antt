@@ -1,6 +1,5 @@
-use Rattle.std.proofs.Common.{◌∙◌, ap, option_map, sym}
+use Rattle.std.proofs.Common.{◌∙◌}
 use Rattle.json.specs.Value.{value_view}
-use Rattle.query_json.specs.Tree.{data_of}
 use Rattle.query_json.proofs.TreeLaws.{same_member, seen_found}
 use Rattle.query_json.proofs.tree.member.Goals as goal
 
