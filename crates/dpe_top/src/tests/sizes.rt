@@ -38,7 +38,7 @@ fn thirteen_relations_are_joined_each_with_each(rt: HostRuntime) -> Result<(), F
         }
     }
     let file = numbered_file(alloc, "dense", 13, 1, joins.as_slice())?;
-    let (status, written) = long_answer(&rt, alloc, &[], file)?;
+    let (status, written) = long_answer(&rt, alloc, &["--buffer", "65536"], file)?;
     assert_eq!(rt; status, Status::Done);
     assert!(rt;
         written.starts_with(
@@ -76,12 +76,22 @@ fn most_queries(alloc: Global) -> Result<String, AllocError> {
 #[test]
 fn each_of_the_most_queries_has_its_entry(rt: HostRuntime) -> Result<(), Fail> {
     let alloc = rt.alloc();
-    let (status, written) = long_answer(&rt, alloc, &[], most_queries(alloc)?)?;
-    let mut report = String::new(alloc);
-    for _ in 0..MOST {
-        report.push_str(ENTRY)?;
+    let cases: [(&[&str], &str); 2] = [
+        (&[], ""),
+        (
+            &["--stats", "on"],
+            "stats dpccp buffer 4096 buffers 1 rounds 1 probes 0\n",
+        ),
+    ];
+    for (words, statistics) in cases {
+        let (status, written) = long_answer(&rt, alloc, words, most_queries(alloc)?)?;
+        let mut report = String::new(alloc);
+        for _ in 0..MOST {
+            report.push_str(ENTRY)?;
+            report.push_str(statistics)?;
+        }
+        assert_eq!(rt; status, Status::Done, "{words:?}");
+        assert_eq!(rt; written.as_slice(), report.as_bytes(), "{words:?}");
     }
-    assert_eq!(rt; status, Status::Done);
-    assert_eq!(rt; written.as_slice(), report.as_bytes());
     Ok(())
 }
