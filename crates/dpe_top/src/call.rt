@@ -3,8 +3,9 @@ ghost use Rattle.std.specs.Prelude.{◌≡◌, ◌<◌, ◌≤◌, ◌⊎◌, �
 ghost use Rattle.std.specs.Io.KnownBytes.{Appends, Keeps};
 ghost use Rattle.io_edge.specs.Causes.{Rose};
 ghost use Rattle.dpe_words.specs.Line.{AreInRange, IsLine, texts_of};
+ghost use Rattle.dpe_top.specs.declared.status.Status.{Status};
 ghost use Rattle.dpe_top.specs.Replies.{Replies};
-ghost use Rattle.dpe_top.specs.Reply.{AtOnce, IsAnswered, IsReported, IsText, IsWellFormed, IsWhole, MayEnd, Reads, Took, answer, answer_of_bytes, summary, task};
+ghost use Rattle.dpe_top.specs.Reply.{AtOnce, IsAnswered, IsReported, IsText, IsWellFormed, IsWhole, MayEnd, Reads, Took, answer, answer_of_bytes, status_of, summary, task};
 
 use crate::INPUT_MAX;
 use crate::lines::{fault_line, too_long_line};
@@ -152,6 +153,9 @@ pub fn dpe<R: Threads + Sync, S: Source, K: Sink, G: Gate>(
         × IfSome (S.left source.old) (λ bytes. IsText (answer (texts_of words.now) bytes) text)
         × (K.sure sink.old < length text)
         × ((n : ℕ) × (n < length text) × Appends (K.held sink.old) (K.held sink.new) (take n text))) }
+    ensures unwritten { result ≡ Status.WriteFault → Reads (task (texts_of words.now)) → (unwritten : Status) × IsWhole unwritten
+        × IfSome (S.left source.old) (λ bytes. unwritten ≡ status_of (answer (texts_of words.now) bytes))
+        × Took unwritten (S.left source.old) (S.left source.new) }
     ensures memory { result ≡ Status.NoMemory → Keeps (K.held sink.old) (K.held sink.new) }
 
     // A workload is reported, where no end fails and there is memory.
