@@ -1,4 +1,6 @@
 pub mod Heights
+pub mod Measures
+pub mod PlanForms
 pub mod Roots
 pub mod Plain
 pub mod Holdings

@@ -1,5 +1,6 @@
 pub mod Entries
 pub mod Json
+pub mod Measures
 pub mod Names
 pub mod Reports
 pub mod Texts

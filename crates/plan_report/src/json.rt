@@ -1,19 +1,20 @@
 //! The JSON of an entry, and of the whole report.
-ghost use Rattle.std.specs.Prelude.{◌≡◌, ◌<◌, ◌++◌, length, IfOk, false};
+ghost use Rattle.std.specs.Prelude.{◌≡◌, ◌++◌, length, IfOk, OnOk, false};
 ghost use Rattle.serde_json.specs.View.{view};
 ghost use Rattle.serde_json.specs.Written.{compact_text, has_float};
 ghost use Rattle.dpe_base.specs.Queries.{relations};
 ghost use Rattle.join_graph.specs.Graphs.{graph_of};
-ghost use Rattle.join_tree.specs.Trees.{Legal, cost};
+ghost use Rattle.join_tree.specs.Trees.{Legal};
 ghost use Rattle.join_tree.specs.TreeOf.{tree_of};
 ghost use Rattle.plan_report.specs.Json.{accepted_data, scan_data, join_data, stats_data, stats_member, plan_data, refused_data, report_data, values_of};
+ghost use Rattle.plan_report.specs.Measures.{numbers_of, EndsIn};
 ghost use Rattle.plan_report.specs.Texts.{newline};
 
 use crate::entry::Stats;
 use crate::names::{enumerator_name, operator_name};
-use crate::numbers::{cost_of, rows_of};
+use crate::numbers::{Numbers, next_numbers};
 use cost_model::CostModel;
-use dpe_base::{COST_LIMIT, Name, Query};
+use dpe_base::{Name, Query};
 use join_tree::Tree;
 use query_json::{QueryRefusal, write_refusal};
 use serde_json::{Value, json};
@@ -38,26 +39,26 @@ fn join_value(
     json!(in alloc; {"cost": cost, "left": left, "op": operator, "right": right, "rows": rows})
 }
 
-/// A tree as nested objects.
+/// A tree as nested objects. Takes the numbers of its nodes from the end of `numbers`.
 pub fn plan_value<M: CostModel>(
     alloc: Global,
     aliases: &[Name],
     query: &Query,
-    model: &M,
+    numbers: &mut Vec<Numbers>,
     tree: &Tree,
 ) -> Result<Value, AllocError>
     requires named { length aliases.now ≡ relations query.now }
     requires legal { Legal M.KIND (graph_of query.now) (tree_of tree.now) }
-    requires word { cost M.KIND query.now (tree_of tree.now) < COST_LIMIT }
-    ensures { IfOk result (λ v. view v ≡ plan_data M.KIND query.now aliases.now (tree_of tree.now)) }
+    requires numbers { EndsIn (numbers_of M.KIND query.now (tree_of tree.now)) numbers.old.items }
+    ensures value { IfOk result (λ v. view v ≡ plan_data M.KIND query.now aliases.now (tree_of tree.now)) }
+    ensures rest { OnOk result (numbers.old.items ≡ numbers.new.items ++ numbers_of M.KIND query.now (tree_of tree.now)) }
 {
-    let rows = rows_of::<M>(query, tree);
+    let Numbers { rows, cost, .. } = next_numbers(numbers);
     match tree {
         Tree::Leaf(r) => scan_value(alloc, aliases[*r as usize].text(), rows),
         Tree::Join { op, left, right } => {
-            let cost = cost_of(query, model, tree);
-            let left = plan_value(alloc, aliases, query, model, left)?;
-            let right = plan_value(alloc, aliases, query, model, right)?;
+            let left = plan_value::<M>(alloc, aliases, query, numbers, left)?;
+            let right = plan_value::<M>(alloc, aliases, query, numbers, right)?;
             join_value(alloc, operator_name(M::KIND, *op), rows, cost, left, right)
         }
     }

@@ -4,11 +4,10 @@ ghost use Rattle.plan_report.specs.Json.{are_plain};
 
 use crate::entry::Stats;
 use crate::json::{line_of, plan_value, planned_value, refused_value, report_value};
-use crate::numbers::cost_of;
+use crate::numbers::{measure, rows_of_all};
 use crate::text::{write_head, write_plan, write_refused, write_stats};
-use card_scaled::rows_once;
 use cost_model::CostModel;
-use dpe_base::{COST_LIMIT, Name, Query, RelSet};
+use dpe_base::{COST_LIMIT, Name, Query};
 use join_tree::Tree;
 use query_json::QueryRefusal;
 use serde_json::Value;
@@ -102,18 +101,21 @@ impl Report {
         }))) }
         ensures err { OnErr result (Keeps self.old self.new) }
     {
-        let cost = cost_of(query, model, tree);
-        let rows = rows_once(query, RelSet::full(query.n()));
+        // its clause says what every query keeps
+        let _n = query.n();
+        let mut numbers = Vec::new(self.alloc);
+        let whole = measure(query, model, tree, &mut numbers)?;
+        let (cost, rows) = (whole.cost, rows_of_all(query, whole));
         match self.format {
             Format::Text => {
                 let mut entry = String::new(self.alloc);
                 write_head(&mut entry, name, cost, rows, pairs)?;
-                write_plan(&mut entry, aliases, query, model, 0, tree)?;
+                write_plan::<M>(&mut entry, aliases, query, &mut numbers, 0, tree)?;
                 write_stats(&mut entry, stats)?;
                 self.push_text(entry.as_str())
             }
             Format::Json => {
-                let plan = plan_value(self.alloc, aliases, query, model, tree)?;
+                let plan = plan_value::<M>(self.alloc, aliases, query, &mut numbers, tree)?;
                 let entry = planned_value(self.alloc, name, cost, rows, pairs, plan, stats)?;
                 self.push_value(entry)
             }

@@ -2,15 +2,16 @@
 ghost use Rattle.std.specs.Prelude.{◌≡◌, ◌+◌, ◌^◌, ◌<◌, ◌++◌, length, OnOk, string_bytes};
 ghost use Rattle.dpe_base.specs.Queries.{relations};
 ghost use Rattle.join_graph.specs.Graphs.{graph_of};
-ghost use Rattle.join_tree.specs.Trees.{Legal, cost};
+ghost use Rattle.join_tree.specs.Trees.{Legal};
 ghost use Rattle.join_tree.specs.TreeOf.{tree_of};
+ghost use Rattle.plan_report.specs.Measures.{numbers_of, EndsIn};
 ghost use Rattle.plan_report.specs.Texts.{indent, query_line, numbers_line, scan_line, join_line, stats_text, plan_text, refused_text, height};
 
 use crate::entry::Stats;
 use crate::names::{enumerator_name, operator_name};
-use crate::numbers::{cost_of, rows_of};
+use crate::numbers::{Numbers, next_numbers};
 use cost_model::CostModel;
-use dpe_base::{COST_LIMIT, Name, Query};
+use dpe_base::{Name, Query};
 use join_tree::Tree;
 use query_json::{QueryRefusal, write_refusal};
 use std::alloc::AllocError;
@@ -51,30 +52,31 @@ fn write_join(out: &mut String, operator: &str, rows: u64, cost: u64) -> Result<
     writeln!(out, "{operator} rows {rows} cost {cost}")
 }
 
-/// Appends the lines of a tree, with the root at this depth.
+/// Appends the lines of a tree, with the root at this depth. Takes the numbers of its nodes from the end of
+/// `numbers`.
 pub fn write_plan<M: CostModel>(
     out: &mut String,
     aliases: &[Name],
     query: &Query,
-    model: &M,
+    numbers: &mut Vec<Numbers>,
     depth: u32,
     tree: &Tree,
 ) -> Result<(), AllocError>
     requires named { length aliases.now ≡ relations query.now }
     requires legal { Legal M.KIND (graph_of query.now) (tree_of tree.now) }
-    requires word { cost M.KIND query.now (tree_of tree.now) < COST_LIMIT }
+    requires numbers { EndsIn (numbers_of M.KIND query.now (tree_of tree.now)) numbers.old.items }
     requires fits { depth + height (tree_of tree.now) < 2 ^ 32 }
-    ensures { OnOk result (string_bytes out.new ≡ string_bytes out.old ++ plan_text M.KIND query.now aliases.now depth (tree_of tree.now)) }
+    ensures text { OnOk result (string_bytes out.new ≡ string_bytes out.old ++ plan_text M.KIND query.now aliases.now depth (tree_of tree.now)) }
+    ensures rest { OnOk result (numbers.old.items ≡ numbers.new.items ++ numbers_of M.KIND query.now (tree_of tree.now)) }
 {
     write_indent(out, depth)?;
-    let rows = rows_of::<M>(query, tree);
+    let Numbers { rows, cost, .. } = next_numbers(numbers);
     match tree {
         Tree::Leaf(r) => write_scan(out, aliases[*r as usize].text(), rows),
         Tree::Join { op, left, right } => {
-            let cost = cost_of(query, model, tree);
             write_join(out, operator_name(M::KIND, *op), rows, cost)?;
-            write_plan(out, aliases, query, model, depth + 1, left)?;
-            write_plan(out, aliases, query, model, depth + 1, right)
+            write_plan::<M>(out, aliases, query, numbers, depth + 1, left)?;
+            write_plan::<M>(out, aliases, query, numbers, depth + 1, right)
         }
     }
 }
