@@ -3,7 +3,7 @@ use Rattle.std.proofs.Common.{arith, ◌≡◌, ℕ, suc, ◌+◌, List, ◌++�
 use Rattle.std.proofs.lemmas.List.{append_assoc}
 use Rattle.serde_json.specs.Data.{Data}
 use Rattle.dpe_base.specs.Queries.{JoinQuery}
-use Rattle.join_tree.specs.Trees.{JoinTree, leaf, join}
+use Rattle.join_tree.specs.Trees.{JoinTree, join}
 use Rattle.plan_report.specs.declared.numbers.Numbers.{Numbers}
 use Rattle.plan_report.specs.Json.{join_data, plan_data}
 use Rattle.plan_report.specs.Measures.{own_numbers}

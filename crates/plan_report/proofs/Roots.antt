@@ -7,7 +7,7 @@ use Rattle.dpe_base.proofs.SetLaws.{sets, member-same}
 use Rattle.dpe_base.proofs.SizeLaws.{size-single, size-empty, size_one}
 use Rattle.join_graph.specs.Graphs.{Connected, graph_of}
 use Rattle.cost_model.specs.Words.{word_op, word_left}
-use Rattle.join_tree.specs.Trees.{JoinTree, leaf, join, set_of, cost, root_word, Legal, HasWord, Best, Plan}
+use Rattle.join_tree.specs.Trees.{JoinTree, leaf, join, set_of, cost, Legal, HasWord, Best, Plan}
 use Rattle.plan_report.specs.declared.plan.Root.{Root}
 use Rattle.plan_report.specs.Words.{IsRoot}
 use Rattle.join_tree.proofs.TreeLaws.{join_size}

@@ -37,13 +37,7 @@ fn of_scan(query: &Query, r: u8) -> Numbers
 }
 
 // The numbers of a join, from those of its sides.
-fn of_join<M: CostModel>(
-    query: &Query,
-    model: &M,
-    op: u8,
-    left: Numbers,
-    right: Numbers,
-) -> Numbers
+fn of_join<M: CostModel>(query: &Query, model: &M, op: u8, left: Numbers, right: Numbers) -> Numbers
     requires op { op < operators M.KIND }
     requires left { Connected (graph_of query.now) left.set }
     requires right { Connected (graph_of query.now) right.set }

@@ -101,9 +101,8 @@ impl Report {
         }))) }
         ensures err { OnErr result (Keeps self.old self.new) }
     {
-        // its clause says what every query keeps
-        let _n = query.n();
-        let mut numbers = Vec::new(self.alloc);
+        let n = query.n();
+        let mut numbers = Vec::with_capacity(self.alloc, 2 * n as usize)?;
         let whole = measure(query, model, tree, &mut numbers)?;
         let (cost, rows) = (whole.cost, rows_of_all(query, whole));
         match self.format {

@@ -1,4 +1,4 @@
-use Rattle.std.proofs.Common.{◌≡◌, ap}
+use Rattle.std.proofs.Common.{ap}
 use Rattle.join_graph.specs.Graphs.{graph_of}
 use Rattle.join_tree.specs.TreeOf.{tree_of}
 use Rattle.plan_report.proofs.Measures.{sides_connected}

@@ -1,4 +1,4 @@
-use Rattle.std.proofs.Common.{arith, ◌∙◌}
+use Rattle.std.proofs.Common.{arith}
 use Rattle.dpe_base.proofs.SetLaws.{sets}
 use Rattle.dpe_base.proofs.SizeLaws.{union_some}
 use Rattle.join_tree.proofs.TreeCosts.{rows_bounds}
