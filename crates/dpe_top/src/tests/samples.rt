@@ -71,25 +71,71 @@ fn samples_have_their_sums(rt: HostRuntime) -> Result<(), Fail> {
 fn other_options_change_no_sample(rt: HostRuntime) -> Result<(), Fail> {
     let alloc = rt.alloc();
     let lines: [&[&str]; 6] = [
-        &["--workers", "1"],
-        &["--workers", "64", "--enumerator", "dpsub", "--buffer", "5"],
-        &["--workers", "64", "--enumerator", "dpsize", "--buffer", "5"],
-        &["--workers", "2", "--enumerator", "dpsva", "--buffer", "1"],
-        &["--format", "json"],
-        &["--stats", "on"],
+        &[
+            "--mode",
+            "sample",
+            "--number",
+            "7",
+            "--workers",
+            "1",
+        ],
+        &[
+            "--mode",
+            "sample",
+            "--number",
+            "7",
+            "--workers",
+            "64",
+            "--enumerator",
+            "dpsub",
+            "--buffer",
+            "5",
+        ],
+        &[
+            "--mode",
+            "sample",
+            "--number",
+            "7",
+            "--workers",
+            "64",
+            "--enumerator",
+            "dpsize",
+            "--buffer",
+            "5",
+        ],
+        &[
+            "--mode",
+            "sample",
+            "--number",
+            "7",
+            "--workers",
+            "2",
+            "--enumerator",
+            "dpsva",
+            "--buffer",
+            "1",
+        ],
+        &[
+            "--mode",
+            "sample",
+            "--number",
+            "7",
+            "--format",
+            "json",
+        ],
+        &[
+            "--mode",
+            "sample",
+            "--number",
+            "7",
+            "--stats",
+            "on",
+        ],
     ];
-    for line in lines {
-        let mut words = Vec::new(alloc);
-        words.push("--mode")?;
-        words.push("sample")?;
-        words.push("--number")?;
-        words.push("7")?;
-        for word in line {
-            words.push(*word)?;
-        }
-        let (status, written) = answer_unread(&rt, alloc, words.as_slice())?;
-        assert_eq!(rt; status, Status::Done, "{line:?}");
-        assert_eq!(rt; written.as_slice(), SEVEN.as_bytes(), "{line:?}");
+    for words in lines {
+        let (status, written) = answer_unread(&rt, alloc, words)?;
+        assert_eq!(rt; status, Status::Done, "{words:?}");
+        assert_eq!(rt; written.as_slice(), SEVEN.as_bytes(), "{words:?}");
     }
     Ok(())
 }
