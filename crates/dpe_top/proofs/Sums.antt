@@ -1,15 +1,14 @@
 -- Sums that grow query by query.
-use Rattle.std.proofs.Common.{◌≡◌, ◌+◌, ◌*◌, ◌-◌, ◌^◌, ◌<◌, ◌≤◌, ℕ, refl, sym, ◌∙◌, ap, subst, arith, List, [], ◌∷◌, ◌++◌, take, length, Some, None}
+use Rattle.std.proofs.Common.{◌≡◌, ◌+◌, ◌*◌, ◌-◌, ◌^◌, ◌<◌, ◌≤◌, ℕ, refl, ◌∙◌, ap, arith, List, [], ◌∷◌, ◌++◌, take, length, Some, None}
 use Rattle.std.proofs.lemmas.List.{length-append, append-nil}
 use Rattle.std.proofs.lemmas.List.Elements.{filter_map-append, All-nil, All-push}
 use Rattle.std.proofs.lemmas.List.Sums.{sum_by_push}
 use Rattle.std.specs.Prelude.{All}
-use Rattle.std.specs.List.{filter_map, slice_get, sum_by}
+use Rattle.std.specs.List.{slice_get}
 use Rattle.dpe_base.specs.Queries.{JoinQuery, relations}
 use Rattle.query_json.specs.declared.entry.Entry.{Entry}
 use Rattle.query_json.specs.declared.entry.Named.{Named}
-use Rattle.query_json.specs.declared.entry.Part.{Part}
-use Rattle.query_json.specs.declared.entry.Part.TheVariants.{Accepted, Refused}
+use Rattle.query_json.specs.declared.entry.Part.TheVariants.{Accepted}
 use Rattle.query_json.specs.Sound.{IsEntrySound}
 use Rattle.dpe_top.specs.declared.summary.Share.{Share}
 use Rattle.dpe_top.specs.declared.summary.Totals.{Totals}
@@ -81,11 +80,12 @@ pub summed_more : (kind : ℕ) (entries : List Entry) (i : ℕ) (old new : Total
     → HasSummed kind entries i old → slice_get entries i ≡ Some entry → IsEntrySound entry → entry.part ≡ Accepted named → IsShare kind named.query share
     → new ≡ with_query old named.query share → AreAtMost (2 ^ 64 * (i + 1)) new → HasSummed kind entries (i + 1) new
 summed_more kind entries i old new entry named share has at sound part is sums small = record {
-  totals =
-      (has.totals.0 ++ (share ∷ []),
-      rw (queries_more entries i entry named at part) (shares_more kind (planned_queries (take i entries)) has.totals.0 named.query share has.totals.1 is),
-      rw (queries_more entries i entry named at part)
-      (sums ∙ ap (λ (x : Totals). with_query x named.query share) has.totals.2 ∙ totals_more (planned_queries (take i entries)) has.totals.0 named.query share));
+  totals = (
+    has.totals.0 ++ (share ∷ []),
+    rw (queries_more entries i entry named at part) (shares_more kind (planned_queries (take i entries)) has.totals.0 named.query share has.totals.1 is),
+    rw (queries_more entries i entry named at part)
+        (sums ∙ ap (λ (x : Totals). with_query x named.query share) has.totals.2 ∙ totals_more (planned_queries (take i entries)) has.totals.0 named.query share),
+  );
   sound = sound_more entries i entry at has.sound sound;
   small = small;
 }
@@ -94,10 +94,11 @@ summed_more kind entries i old new entry named share has at sound part is sums s
 pub summed_same : (kind : ℕ) (entries : List Entry) (i : ℕ) (t : Totals) (entry : Entry)
     → HasSummed kind entries i t → slice_get entries i ≡ Some entry → IsEntrySound entry → query_in entry.part ≡ None → HasSummed kind entries (i + 1) t
 summed_same kind entries i t entry has at sound none = record {
-  totals =
-      (has.totals.0,
-      rw (queries_same entries i entry at none) has.totals.1,
-      rw (queries_same entries i entry at none) has.totals.2);
+  totals = (
+    has.totals.0,
+    rw (queries_same entries i entry at none) has.totals.1,
+    rw (queries_same entries i entry at none) has.totals.2,
+  );
   sound = sound_more entries i entry at has.sound sound;
   small = record {
     queries = omega (arith, has.small.queries);

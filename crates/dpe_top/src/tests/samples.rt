@@ -71,14 +71,7 @@ fn samples_have_their_sums(rt: HostRuntime) -> Result<(), Fail> {
 fn other_options_change_no_sample(rt: HostRuntime) -> Result<(), Fail> {
     let alloc = rt.alloc();
     let lines: [&[&str]; 6] = [
-        &[
-            "--mode",
-            "sample",
-            "--number",
-            "7",
-            "--workers",
-            "1",
-        ],
+        &["--mode", "sample", "--number", "7", "--workers", "1"],
         &[
             "--mode",
             "sample",
@@ -115,22 +108,8 @@ fn other_options_change_no_sample(rt: HostRuntime) -> Result<(), Fail> {
             "--buffer",
             "1",
         ],
-        &[
-            "--mode",
-            "sample",
-            "--number",
-            "7",
-            "--format",
-            "json",
-        ],
-        &[
-            "--mode",
-            "sample",
-            "--number",
-            "7",
-            "--stats",
-            "on",
-        ],
+        &["--mode", "sample", "--number", "7", "--format", "json"],
+        &["--mode", "sample", "--number", "7", "--stats", "on"],
     ];
     for words in lines {
         let (status, written) = answer_unread(&rt, alloc, words)?;

@@ -1,4 +1,4 @@
-use Rattle.std.proofs.Common.{append_assoc, ◌∙◌, refl}
+use Rattle.std.proofs.Common.{append_assoc, ◌∙◌}
 use Rattle.dpe_top.specs.Summary.{summary_line}
 use Rattle.dpe_top.proofs.summary.line_of.Goals as goal
 
