@@ -57,13 +57,18 @@ one_count g first second a b = omega (arith, no_longer g first second a b, no_lo
 same_share : (x y : Share) → x.pairs ≡ y.pairs → x.cost ≡ y.cost → x ≡ y
 same_share x y e f = ap (λ (k : ℕ). record { pairs = k; cost = x.cost }) e ∙ ap (λ (k : ℕ). record { pairs = y.pairs; cost = k }) f
 
+-- how many pairs a query has, said twice
+pub one_number : (g : JoinGraph) (m n : ℕ) → ((all : List Pair) × Complete g all × (m ≡ length all)) → ((all : List Pair) × Complete g all × (n ≡ length all))
+    → m ≡ n
+one_number g m n a b = a.2 ∙ one_count g a.0 b.0 a.1 b.1 ∙ sym b.2
+
 one_share : (kind : ℕ) (q : JoinQuery) (x y : Share) → IsQuery q → IsShare kind q x → IsShare kind q y → x ≡ y
 one_share kind q x y ok a b =
     same_share x y
-    (a.pairs.2 ∙ one_count (graph_of q) a.pairs.0 b.pairs.0 a.pairs.1 b.pairs.1 ∙ sym b.pairs.2)
+    (one_number (graph_of q) x.pairs y.pairs a.pairs b.pairs)
     (a.plan.2 ∙ ap (cost kind q) (plan_same kind q (full (relations q)) a.plan.0 b.plan.0 ok a.plan.1 b.plan.1) ∙ sym b.plan.2)
 
-ap_cons : {A : Type 0} (x y : A) (xs ys : List A) → x ≡ y → xs ≡ ys → x ∷ xs ≡ y ∷ ys
+pub ap_cons : {A : Type 0} (x y : A) (xs ys : List A) → x ≡ y → xs ≡ ys → x ∷ xs ≡ y ∷ ys
 ap_cons x y xs ys e f = cc
 
 same_shares : (kind : ℕ) (queries : List JoinQuery) (first second : List Share) → All IsQuery queries → AreShares kind queries first → AreShares kind queries second → first ≡ second
