@@ -1,10 +1,9 @@
 -- Settings that show alike have one report of the entries.
-use Rattle.std.proofs.Common.{◌≡◌, ℕ, true, false, Bool, if◌then◌else◌, refl, sym, ◌∙◌, ap, subst, List, [], ◌∷◌, Option, None}
+use Rattle.std.proofs.Common.{◌≡◌, ℕ, false, refl, sym, ◌∙◌, ap, subst, List, [], ◌∷◌, Option, None}
 use Rattle.std.specs.Prelude.{All}
 use Rattle.std.proofs.lemmas.List.Elements.{All-head, All-tail}
 use Rattle.dpe_base.specs.Queries.{relations}
 use Rattle.dpe_base.specs.Sets.{full}
-use Rattle.cost_model.specs.declared.model.ModelKind.{ModelKind}
 use Rattle.join_graph.specs.Graphs.{JoinGraph, graph_of}
 use Rattle.join_tree.specs.Trees.{JoinTree, Plan}
 use Rattle.join_tree.proofs.OnePlan.{plan_same}
@@ -22,6 +21,7 @@ use Rattle.dpe_words.specs.declared.choices.Settings.{Settings}
 use Rattle.dpe_top.specs.Enumerations.{stats_of, stats_with}
 use Rattle.dpe_top.specs.Laws.{OneReport, WorkersDoNotShow, OnlyStatisticsShowTheEnumerator}
 use Rattle.dpe_top.specs.Reports.{IsPlanned, IsPart, Says, IsReport, kind_of}
+use Rattle.dpe_top.proofs.Accepted.{sound_entries}
 use Rattle.dpe_top.proofs.OneSample.{one_number, ap_cons}
 
 -- what a report shows of its settings
@@ -84,16 +84,16 @@ same_report settings other entries first second alike sound a b =
     ∙ ap (λ (f : Format). report_bytes f b.0) alike.format ∙ sym b.2
 
 pub one_report : OneReport
-one_report settings entries first second sound a b =
-    same_report settings settings entries first second (record { model = refl; format = refl; stats = λ g. refl }) sound a b
+one_report settings bytes entries first second read a b =
+    same_report settings settings entries first second (record { model = refl; format = refl; stats = λ g. refl }) (sound_entries bytes entries read) a b
 
 alike_workers : (settings : Settings) (n : ℕ) → ShowAlike settings (record settings { workers = n })
 alike_workers settings n = record { model = refl; format = refl; stats = λ g. refl }
 
 pub workers_do_not_show : WorkersDoNotShow
-workers_do_not_show settings other entries first second same sound a b =
+workers_do_not_show settings other bytes entries first second read same a b =
     same_report settings other entries first second
-    (subst (λ (s : Settings). ShowAlike settings s) (sym same) (alike_workers settings other.workers)) sound a b
+    (subst (λ (s : Settings). ShowAlike settings s) (sym same) (alike_workers settings other.workers)) (sound_entries bytes entries read) a b
 
 no_stats : (settings : Settings) (m n k : ℕ) → settings.stats ≡ false → stats_with settings m n k ≡ None
 no_stats settings m n k off = rw off refl
@@ -104,7 +104,7 @@ alike_without settings other off also model format =
     record { model = model; format = format; stats = λ g. no_stats settings _ _ _ off ∙ sym (no_stats other _ _ _ also) }
 
 pub only_statistics_show_the_enumerator : OnlyStatisticsShowTheEnumerator
-only_statistics_show_the_enumerator settings other entries first second off same sound a b =
+only_statistics_show_the_enumerator settings other bytes entries first second read off same a b =
     same_report settings other entries first second
     (alike_without settings other off (ap (λ (s : Settings). s.stats) same ∙ off) (sym (ap (λ (s : Settings). s.model) same)) (sym (ap (λ (s : Settings). s.format) same)))
-    sound a b
+    (sound_entries bytes entries read) a b

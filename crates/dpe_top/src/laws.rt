@@ -11,7 +11,7 @@ pub fn one_sample()
     ensures { OneSample }
 {}
 
-/// Settings and accepted queries have one report.
+/// Settings and the bytes of a workload have one report.
 pub fn one_report()
     ensures { OneReport }
 {}
