@@ -1,9 +1,8 @@
 -- A number and a model have one summary.
-use Rattle.std.proofs.Common.{◌≡◌, ◌<◌, ◌≤◌, ℕ, true, false, ◌&&◌, Bool, refl, sym, ◌∙◌, ap, subst, arith, List, [], ◌∷◌, length, Some, None, Option, Result, Ok}
+use Rattle.std.proofs.Common.{◌≡◌, ◌≤◌, ℕ, true, false, ◌&&◌, Bool, refl, sym, ◌∙◌, ap, subst, arith, List, [], ◌∷◌, length, Result, Ok}
 use Rattle.std.specs.Prelude.{All, nat_eq}
 use Rattle.std.specs.Bool.{Decides}
 use Rattle.std.proofs.lemmas.Bool.Decides.{nat_tests}
-use Rattle.std.specs.List.{Contains}
 use Rattle.std.specs.Cmp.{decided}
 use Rattle.std.proofs.lemmas.List.Elements.{All-head, All-tail, All-cons, All-nil}
 use Rattle.std.proofs.lemmas.Map.Made.{is_member-Decides, length-le_from_is_member, IsDistinct-from_AllPairs}
@@ -22,9 +21,8 @@ use Rattle.query_json.specs.Entries.{entries_of}
 use Rattle.workload_gen.specs.Values.{workload_of}
 use Rattle.query_json.specs.Sound.{IsEntrySound, IsPartSound}
 use Rattle.dpe_top.specs.declared.summary.Share.{Share}
-use Rattle.dpe_top.specs.declared.summary.Totals.{Totals}
 use Rattle.dpe_top.specs.Laws.{OneCount, OneSample}
-use Rattle.dpe_top.specs.Summary.{IsShare, AreShares, IsSummary, planned_queries, query_in, totals_of, summary_line}
+use Rattle.dpe_top.specs.Summary.{IsShare, AreShares, IsSummary, planned_queries, totals_of, summary_line}
 
 pair_eq : Pair → Pair → Bool
 pair_eq p q = nat_eq p.a q.a && nat_eq p.b q.b
