@@ -10,7 +10,6 @@ use Rattle.query_json.specs.declared.file.QueryItem.{QueryItem}
 use Rattle.query_json.specs.declared.file.RelationItem.{RelationItem}
 use Rattle.query_json.specs.declared.file.Table.{Table}
 use Rattle.query_json.specs.declared.refusal.QueryRefusal.{QueryRefusal}
-use Rattle.query_json.specs.Answer.{◌>>=◌}
 use Rattle.query_json.specs.Entries.{counted, entries_of, entry_of, part_of, table_names, tables_of}
 use Rattle.query_json.specs.Limits.{IsFileWithin, IsQueryWithin, IsTableWithin}
 use Rattle.query_json.specs.Queries.{named, named_of, or_disconnected, query_of}

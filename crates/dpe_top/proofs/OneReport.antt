@@ -43,10 +43,9 @@ one_planned : (settings other : Settings) (name : List ℕ) (named : Named) (x y
 unfolding described
 one_planned settings other name named x y alike sound a b =
     let kinds : kind_of settings.model ≡ kind_of other.model = ap kind_of alike.model in
-    let plan : Plan (kind_of settings.model) named.query (full (relations named.query)) y.tree
-        = subst (λ (k : ℕ). Plan k named.query (full (relations named.query)) y.tree) (sym kinds) b.plan in
-    let trees : x.tree ≡ y.tree
-        = plan_same (kind_of settings.model) named.query (full (relations named.query)) x.tree y.tree sound.valid a.plan plan in
+    let all = full (relations named.query) in
+    let plan = subst (λ (k : ℕ). Plan k named.query all y.tree) (sym kinds) b.plan in
+    let trees : x.tree ≡ y.tree = plan_same (kind_of settings.model) named.query all x.tree y.tree sound.valid a.plan plan in
     let numbers : x.pairs ≡ y.pairs = one_number (graph_of named.query) x.pairs y.pairs a.pairs b.pairs in
     let stats : x.stats ≡ y.stats = a.stats ∙ alike.stats (graph_of named.query) ∙ sym b.stats in
     a.rest ∙ same_described (kind_of settings.model) (kind_of other.model) name named x.tree y.tree x.pairs y.pairs x.stats y.stats kinds trees numbers stats
