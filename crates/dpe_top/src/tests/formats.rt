@@ -80,14 +80,7 @@ fn statistics_of_small_runs(rt: HostRuntime) -> Result<(), Fail> {
             "query clique\ncost 6 rows 1 pairs 25\nloop rows 1 cost 6\n  scan r0 rows 1\n  loop rows 1 cost 4\n    scan r1 rows 1\n    loop rows 1 cost 2\n      scan r2 rows 1\n      scan r3 rows 1\nstats dpsva buffer 10 buffers 3 rounds 5 probes 53\n",
         ),
         (
-            &[
-                "--workers",
-                "64",
-                "--enumerator",
-                "dpsva",
-                "--stats",
-                "on",
-            ],
+            &["--workers", "64", "--enumerator", "dpsva", "--stats", "on"],
             TRADE,
             "query top\ncost 7160040 rows 120000 pairs 35\nhash rows 120000 cost 7160040\n  hash rows 120000 cost 6600040\n    hash rows 30000 cost 420040\n      hash rows 30000 cost 180040\n        loop rows 5 cost 30\n          scan r rows 1\n          scan n rows 25\n        scan c rows 150000\n      scan o rows 150000\n    scan l rows 6000000\n  scan p rows 200000\nstats dpsva buffer 4096 buffers 1 rounds 5 probes 150\n",
         ),

@@ -22,14 +22,7 @@ fn is_planned_under<R: Threads + Sync, G: Gate>(
     let words = words_of(alloc, words)?;
     let mut source = MemSource::new(file.into_bytes(), 64, Vec::new(alloc));
     let mut sink = MemSink::new(alloc, 8192, 64, Vec::new(alloc))?;
-    let status = dpe(
-        rt,
-        alloc,
-        words.as_slice(),
-        &mut source,
-        &mut sink,
-        gate,
-    );
+    let status = dpe(rt, alloc, words.as_slice(), &mut source, &mut sink, gate);
     Ok(status == Status::Done && sink.written() == report.as_bytes())
 }
 

@@ -5,7 +5,8 @@ use io_edge::{MemSink, MemSource};
 use std::test::Fail;
 
 /// A query in two parts, and one of two relations.
-pub const SPLIT_AND_EVEN: &str = "{\"tables\":[{\"name\":\"a\",\"rows\":10},{\"name\":\"b\",\"rows\":10},{\"name\":\"c\",\"rows\":10},{\"name\":\"d\",\"rows\":10}],\
+pub const SPLIT_AND_EVEN: &str =
+    "{\"tables\":[{\"name\":\"a\",\"rows\":10},{\"name\":\"b\",\"rows\":10},{\"name\":\"c\",\"rows\":10},{\"name\":\"d\",\"rows\":10}],\
 \"queries\":[{\"name\":\"split\",\"relations\":[{\"alias\":\"a\",\"table\":\"a\"},{\"alias\":\"b\",\"table\":\"b\"},{\"alias\":\"c\",\"table\":\"c\"},{\"alias\":\"d\",\"table\":\"d\"}],\
 \"joins\":[{\"left\":\"a\",\"right\":\"b\",\"selectivity\":[1,10]},{\"left\":\"c\",\"right\":\"d\",\"selectivity\":[1,10]}]},\
 {\"name\":\"even\",\"relations\":[{\"alias\":\"a\",\"table\":\"a\"},{\"alias\":\"b\",\"table\":\"b\"}],\"joins\":[{\"left\":\"a\",\"right\":\"b\",\"selectivity\":[1,1]}]}]}";

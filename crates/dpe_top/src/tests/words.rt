@@ -36,15 +36,23 @@ fn words_that_are_no_command_line(rt: HostRuntime) -> Result<(), Fail> {
 #[test]
 fn words_that_are_a_command_line(rt: HostRuntime) -> Result<(), Fail> {
     let alloc = rt.alloc();
-    let by_ops = "query even\ncost 130 rows 100 pairs 1\nhash rows 100 cost 130\n  scan a rows 10\n  scan b rows 10\n";
-    let by_rows = "query even\ncost 100 rows 100 pairs 1\njoin rows 100 cost 100\n  scan a rows 10\n  scan b rows 10\n";
+    let by_ops =
+        "query even\ncost 130 rows 100 pairs 1\nhash rows 100 cost 130\n  scan a rows 10\n  scan b rows 10\n";
+    let by_rows =
+        "query even\ncost 100 rows 100 pairs 1\njoin rows 100 cost 100\n  scan a rows 10\n  scan b rows 10\n";
     let lines: [(&[&str], &str); 7] = [
         (&[], by_ops),
         (&["--"], by_ops),
         (&["--model", "cout"], by_rows),
         (&["--model=cout"], by_rows),
-        (&["--workers=64", "--mode=plan", "--model", "cout", "--"], by_rows),
-        (&["--stats", "off", "--format=text", "--number", "0"], by_ops),
+        (
+            &["--workers=64", "--mode=plan", "--model", "cout", "--"],
+            by_rows,
+        ),
+        (
+            &["--stats", "off", "--format=text", "--number", "0"],
+            by_ops,
+        ),
         (&["--buffer", "065536", "--enumerator", "dpsize"], by_ops),
     ];
     for (words, text) in lines {
