@@ -1,3 +1,4 @@
+mod cuts;
 mod files;
 mod formats;
 mod gates;
