@@ -33,7 +33,10 @@ words_are_ordered cost op left cost' op' left' c p l c' p' l' =
     rw (word-below cost op left c, word-below cost' op' left' c') (digits_before cost op left cost' op' left' p l p' l')
 
 pub empty_is_no_word : EmptyIsNoWord
-empty_is_no_word cost op left p l = (λ e. word_at_empty cost op left p l (omega (arith, e)), word-above cost op left)
+empty_is_no_word = (
+  λ cost op left p l. (λ e. word_at_empty cost op left p l (omega (arith, e)), word-above cost op left),
+  λ set l e. absurd (omega (arith, l, e, word-below 0 3 set (omega arith))),
+)
 
 pub best_word_is_least : BestWordIsLeast
 best_word_is_least kind a b wa wb la lb o ia ib =

@@ -1,5 +1,5 @@
 -- What holds of costs and words, as the laws of the crate say it.
-use Rattle.std.specs.Prelude.{◌≡◌, ℕ, ◌*◌, ◌^◌, ◌<◌, ◌≤◌, ◌⊎◌, ◌↔◌}
+use Rattle.std.specs.Prelude.{◌≡◌, ◌≢◌, ℕ, ◌*◌, ◌^◌, ◌<◌, ◌≤◌, ◌⊎◌, ◌↔◌}
 use Rattle.dpe_base.specs.declared.TheConstants.{ROW_CAP, COST_LIMIT, SPAN, EMPTY}
 use Rattle.cost_model.specs.Costs.{operators, join_cost}
 use Rattle.cost_model.specs.Words.{word, word_cost, word_op, word_left, split_cost, split_word, best_word}
@@ -25,10 +25,11 @@ WordsAreOrdered =
     (cost op left cost' op' left' : ℕ) → cost < COST_LIMIT → op ≤ 3 → left < SPAN → cost' < COST_LIMIT → op' ≤ 3 → left' < SPAN
     → (word cost op left < word cost' op' left') ↔ ComesBefore cost op left cost' op' left'
 
--- operator 3 stands in leaves alone, and these cost nothing
+-- No tree has EMPTY as its word: a join has it only where it has no word, and a leaf, which costs nothing and has the operator 3, never.
 abbrev pub EmptyIsNoWord : Type 0
 EmptyIsNoWord =
-    (cost op left : ℕ) → op < 3 → left < SPAN → (word cost op left ≡ EMPTY) ↔ (COST_LIMIT ≤ cost)
+    ((cost op left : ℕ) → op < 3 → left < SPAN → (word cost op left ≡ EMPTY) ↔ (COST_LIMIT ≤ cost))
+    × ((set : ℕ) → set < SPAN → word 0 3 set ≢ EMPTY)
 
 -- w is the word of a join of the sides in one of their orders
 abbrev pub IsSplitWord : ℕ → ℕ → ℕ → ℕ → ℕ → ℕ → ℕ → ℕ → ℕ → Type 0

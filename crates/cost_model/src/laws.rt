@@ -1,4 +1,13 @@
+ghost use Rattle.std.specs.Prelude.{◌≡◌};
 ghost use Rattle.cost_model.specs.Laws.{CostsAreBounded, WordsHoldTheirParts, WordsAreOrdered, EmptyIsNoWord, BestWordIsLeast};
+
+use crate::model::{CostModel, Cout, Ops};
+
+/// The models' numbers: the costs of `Ops` stand under 0 and those of `Cout` under 1.
+pub fn models_have_their_numbers()
+    ensures ops { ⟦<Ops as CostModel>⟧.KIND ≡ 0 }
+    ensures cout { ⟦<Cout as CostModel>⟧.KIND ≡ 1 }
+{}
 
 /// Every operator costs less than 2^90, and the first one at most four times the greatest number of rows.
 pub fn costs_are_bounded()
@@ -15,7 +24,7 @@ pub fn words_are_ordered()
     ensures { WordsAreOrdered }
 {}
 
-/// `EMPTY` stands exactly where the cost has no word.
+/// A join has `EMPTY` exactly where its cost has no word, and a leaf never.
 pub fn empty_is_no_word()
     ensures { EmptyIsNoWord }
 {}

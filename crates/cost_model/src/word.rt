@@ -1,14 +1,8 @@
 ghost use Rattle.std.specs.Prelude.{◌≡◌, ◌≤◌, ◌<◌, MatchOption};
 ghost use Rattle.cost_model.specs.Words.{word, word_cost, word_op, word_left};
 
-use dpe_base::{COST_LIMIT, EMPTY, N_MAX, ROW_CAP, RelSet, SPAN};
+use dpe_base::{COST_LIMIT, EMPTY, RelSet, SPAN};
 use std::marker::Model;
-
-// Joins of all relations by the first operator cost less than the limit,
-const _: () = prove!((N_MAX as u64 - 1) * 4 * ROW_CAP < COST_LIMIT);
-
-// and a cost below the limit has room in a word beside an operator and a set.
-const _: () = prove!(COST_LIMIT as u128 * 4 * SPAN as u128 <= 1 << 64);
 
 /// The memo word of a tree: its cost, the operator of its root and the set of its left side in one number,
 /// which contracts see as that number. A leaf costs nothing, has the operator 3 and its own set.
