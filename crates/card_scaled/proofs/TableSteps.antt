@@ -13,7 +13,7 @@ use Rattle.std.proofs.Math.Nat.{pow-suc}
 use Rattle.std.proofs.Math.Pow.{pow_mono}
 use Rattle.std.proofs.lemmas.Grind.{get_or_default_zero}
 use Rattle.dpe_base.specs.Sets.{member, Has, Within, Disjoint, full, single, union, alone, members_below}
-use Rattle.dpe_base.proofs.SetLaws.{sets, member-above, member-single}
+use Rattle.dpe_base.proofs.SetLaws.{sets, member-above, member-single, below_single}
 use Rattle.dpe_base.proofs.SizeLaws.{union_add, full_below}
 use Rattle.card_scaled.proofs.NearLaws.{REACH, near_more, card_near, between_near}
 use Rattle.card_scaled.proofs.CardLaws.{card_more, relation_same}
@@ -40,10 +40,7 @@ unfolding single
 half_union s r l = omega (arith, union_add s (2 ^ r) (apart s r l))
 
 half_same : (s r k : ℕ) → s < 2 ^ r → k < r → member (2 ^ r + s) k ≡ member s k
-half_same s r k l lt = ap (λ t. member t k) (sym (half_union s r l)) ∙ more_same s r k lt
-  where
-    more_same : (s r k : ℕ) → k < r → member (union s (single r)) k ≡ member s k
-    more_same s r k lt = grind (arith, sets)
+half_same s r k l lt = ap (λ t. member t k) (sym (half_union s r l)) ∙ below_single s r k lt
 
 relation_is : (q : JoinQuery) (s : ℕ) (c : ScaledNumber) (r : ℕ) → fold (times_pred s r) (times_base c (slice_get q.rels r)) q.preds ≡ with_relation q s c r
 unfolding with_relation

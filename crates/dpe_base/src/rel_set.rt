@@ -1,4 +1,4 @@
-ghost use Rattle.std.specs.Prelude.{◌≡◌, ◌≢◌, ℕ, ◌^◌, ◌<◌, ◌≤◌, ◌↔◌, IsTrue, IsNone, IfSome, MatchOption};
+ghost use Rattle.std.specs.Prelude.{◌≡◌, ℕ, ◌^◌, ◌<◌, ◌≤◌, ◌↔◌, IsTrue, IsNone, IfSome, MatchOption};
 ghost use Rattle.dpe_base.specs.Sets.{Has, single, full, union, minus, Meets, Within, size, IsLeast, IsNextSubset, list_order};
 
 use std::cmp::Ordering;
