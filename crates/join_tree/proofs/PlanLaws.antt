@@ -1,6 +1,5 @@
 -- A plan from the root's best word and the plans of its sides.
-use Rattle.std.proofs.Common.{◌≡◌, ◌≢◌, ℕ, zero, suc, ◌+◌, ◌*◌, ◌≤◌, ◌<◌, arith, inl, inr, refl, sym, ◌∙◌, ap, subst}
-use Rattle.std.proofs.lemmas.Bool.{cases_lt}
+use Rattle.std.proofs.Common.{◌≡◌, ◌≢◌, ℕ, zero, suc, ◌+◌, ◌*◌, ◌≤◌, ◌<◌, arith, refl, sym, ◌∙◌, ap, subst}
 use Rattle.dpe_base.specs.declared.TheConstants.{COST_LIMIT, SPAN}
 use Rattle.dpe_base.specs.Queries.{JoinQuery, IsQuery}
 use Rattle.dpe_base.specs.Sets.{Has, Within, Disjoint, IsLeast, union, minus, single, size}
@@ -12,7 +11,6 @@ use Rattle.cost_model.specs.Costs.{operators, join_cost}
 use Rattle.cost_model.specs.Words.{word, word_op, word_left}
 use Rattle.cost_model.proofs.CostLaws.{operators_few}
 use Rattle.cost_model.proofs.WordLaws.{word_mono}
-use Rattle.join_tree.specs.Laws.{PlansCostLeast}
 use Rattle.join_tree.specs.Trees.{JoinTree, leaf, join, set_of, cost, root_word, Legal, HasWord, Best, Plan, EverySubtree}
 use Rattle.join_tree.proofs.TreeLaws.{connected_single_known, legal_connected, join_size}
 use Rattle.join_tree.proofs.BestLaws.{HasBest, legal_small, join_word, best_below, best_cost}
@@ -46,29 +44,6 @@ plan_join kind q op l r x y ok m b px py =
     let best : Best kind q (union (set_of x) (set_of y)) (root_word kind q (join op x y)) =
     subst (λ s. Best kind q s (root_word kind q (join op x y))) (sym over) (subst (Best kind q (union (set_of l) (set_of r))) same b) in
     record { legal = legal; over = over; best = (best, px.best, py.best) }
-
--- a tree with the best word of its set costs no more than any legal tree over the set
-best_costs_least : (kind : ℕ) (q : JoinQuery) (t u : JoinTree) → IsQuery q → Legal kind (graph_of q) t → HasBest kind q t → Legal kind (graph_of q) u → set_of u ≡ set_of t → cost kind q t ≤ cost kind q u
-best_costs_least kind q t u ok l b m e =
-    elim (cases_lt (cost kind q u) COST_LIMIT) [
-      | inl c ↦ best_cost kind q t u ok l b m e c
-      | inr c ↦ omega (arith, c, best_below kind q t ok l b)
-    ]
-
--- the tree costs no more than any legal tree over its set
-abbrev CostsLeast : ℕ → JoinQuery → JoinTree → Type 0
-CostsLeast kind q t = (v : JoinTree) → Legal kind (graph_of q) v → set_of v ≡ set_of t → cost kind q t ≤ cost kind q v
-
-each_costs_least : (kind : ℕ) (q : JoinQuery) (t : JoinTree) → IsQuery q → Legal kind (graph_of q) t → EverySubtree (HasBest kind q) t → EverySubtree (CostsLeast kind q) t
-each_costs_least kind q (leaf r) ok l b = λ v m e. best_costs_least kind q (leaf r) v ok l b m e
-each_costs_least kind q (join op x y) ok l b = (
-  λ v m e. best_costs_least kind q (join op x y) v ok l b.0 m e,
-  each_costs_least kind q x ok l.1 b.1,
-  each_costs_least kind q y ok l.2 b.2,
-)
-
-pub plans_cost_least : PlansCostLeast
-plans_cost_least kind q s t ok p = each_costs_least kind q t ok p.legal p.best
 
 -- a plan from a best tree, where each smaller connected set within it has a plan
 plan_of_tree : (kind : ℕ) (q : JoinQuery) (t : JoinTree) → IsQuery q → Legal kind (graph_of q) t → HasBest kind q t → ((x : ℕ) → x < set_of t → Connected (graph_of q) x → Within x (set_of t) → (u : JoinTree) × Plan kind q x u) → (u : JoinTree) × Plan kind q (set_of t) u
