@@ -5,6 +5,7 @@ use Rattle.dpe_base.specs.declared.TheConstants.{EMPTY}
 use Rattle.dpe_base.specs.declared.pair.Pair.{Pair}
 use Rattle.dpe_base.specs.Queries.{JoinQuery, relations, IsQuery}
 use Rattle.dpe_base.specs.Sets.{union, single, size}
+use Rattle.dpe_base.proofs.SetLaws.{union_comm}
 use Rattle.dpe_base.proofs.SizeLaws.{size_one, full_below}
 use Rattle.join_graph.specs.Graphs.{Connected, Pairs, pair_of, graph_of}
 use Rattle.join_graph.specs.PairLists.{SideBuilt}
@@ -15,7 +16,7 @@ use Rattle.cost_model.specs.Words.{split_word}
 use Rattle.cost_model.proofs.WordLaws.{best_below_is}
 use Rattle.join_tree.specs.Trees.{JoinTree, leaf, join, set_of, Trees, Made, LeastOverPairs, Builds, pair_word}
 use Rattle.join_tree.specs.BuiltLists.{IsBuilt, HasBestPair, IsWorkable, BuiltListsAreWorkable}
-use Rattle.join_tree.proofs.TreeLaws.{union_comm, connected_size_some, connected_single_known}
+use Rattle.join_tree.proofs.TreeLaws.{connected_size_some, connected_single_known}
 use Rattle.join_tree.proofs.BestLaws.{least_single}
 use Rattle.join_tree.proofs.Substructure.{sides_smaller, pair_size_few, join_made, each_has_least, least_over_pairs_exists, least_from_pairs}
 
@@ -34,7 +35,7 @@ module _ (kind : ℕ) (q : JoinQuery) (pairs : List Pair) (ok : IsQuery q) (buil
   built_tree (join op a b) m =
       elim m.3 [
         | inl c ↦ inr (pair_of (set_of a) (set_of b), c, refl)
-        | inr c ↦ inr (pair_of (set_of b) (set_of a), c, union_comm (set_of a) (set_of b))
+        | inr c ↦ inr (pair_of (set_of b) (set_of a), c, union_comm (set_of b) (set_of a))
       ]
 
   -- what a pair gives on made words of its sides is made, or EMPTY
@@ -51,10 +52,10 @@ module _ (kind : ℕ) (q : JoinQuery) (pairs : List Pair) (ok : IsQuery q) (buil
                         inr (subst (Made kind q pairs (union p.a p.b)) (sym e) (join_made kind q pairs ok builds one.0 p.a p.b wa wb one.1 ma mb (inl c) (λ z. ne (e ∙ z))))
                     | inr e ↦
                         let turn : split_word kind one.0 p.b wb wa (rows q p.b) (rows q p.a) (rows q (union p.b p.a)) ≡ split_word kind one.0 p.b wb wa (rows q p.b) (rows q p.a) (rows q (union p.a p.b)) =
-                        ap (λ u. split_word kind one.0 p.b wb wa (rows q p.b) (rows q p.a) (rows q u)) (union_comm p.a p.b) in
+                        ap (λ u. split_word kind one.0 p.b wb wa (rows q p.b) (rows q p.a) (rows q u)) (union_comm p.b p.a) in
                         let made : Made kind q pairs (union p.b p.a) (split_word kind one.0 p.b wb wa (rows q p.b) (rows q p.a) (rows q (union p.b p.a))) =
                         join_made kind q pairs ok builds one.0 p.b p.a wb wa one.1 mb ma (inr c) (λ z. ne (e ∙ (sym turn ∙ z))) in
-                        inr (subst (λ x. Made kind q pairs x (pair_word kind q p wa wb)) (union_comm p.a p.b) (subst (Made kind q pairs (union p.b p.a)) (turn ∙ sym e) made))
+                        inr (subst (λ x. Made kind q pairs x (pair_word kind q p wa wb)) (union_comm p.b p.a) (subst (Made kind q pairs (union p.b p.a)) (turn ∙ sym e) made))
                   ]
             ]
       ]

@@ -1,11 +1,11 @@
 -- Each connected set has a best word and one plan.
-use Rattle.std.proofs.Common.{ℕ, suc, arith, List}
+use Rattle.std.proofs.Common.{ℕ, suc, arith, List, subst}
 use Rattle.dpe_base.specs.declared.pair.Pair.{Pair}
 use Rattle.dpe_base.specs.Queries.{JoinQuery, IsQuery}
 use Rattle.join_graph.specs.Graphs.{Connected, graph_of}
 use Rattle.join_tree.specs.Laws.{AllPairs, ConnectedSetsHaveBestWords, ConnectedSetsHaveOnePlan}
-use Rattle.join_tree.specs.Trees.{JoinTree, Least, Best, Plan}
-use Rattle.join_tree.proofs.TreeLaws.{connected_built, all_pairs_build}
+use Rattle.join_tree.specs.Trees.{Least, Best}
+use Rattle.join_tree.proofs.TreeLaws.{legal_connected, connected_built, all_pairs_build}
 use Rattle.join_tree.proofs.Substructure.{least_exists}
 use Rattle.join_tree.proofs.BestLaws.{least_best, best_same, best_connected}
 use Rattle.join_tree.proofs.OnePlan.{plan_same}
@@ -24,6 +24,10 @@ pub connected_sets_have_best_words : ConnectedSetsHaveBestWords
 connected_sets_have_best_words kind q s ok = ((connected_best kind q s ok, λ b. best_connected kind q s b.0 b.1), best_same kind q s)
 
 pub connected_sets_have_one_plan : ConnectedSetsHaveOnePlan
-connected_sets_have_one_plan kind q s ok c =
-    let plan : (t : JoinTree) × Plan kind q s t = plan_exists kind q s ok (λ x cx within. connected_best kind q x ok cx) c in
-    (plan.0, plan.1, λ u p. plan_same kind q s u plan.0 ok p plan.1)
+connected_sets_have_one_plan kind q s ok = (
+  (
+    λ c. plan_exists kind q s ok (λ x cx within. connected_best kind q x ok cx) c,
+    λ plan. subst (Connected (graph_of q)) plan.1.over (legal_connected kind (graph_of q) plan.0 plan.1.legal),
+  ),
+  λ t u a b. plan_same kind q s t u ok a b,
+)

@@ -45,7 +45,7 @@ plan_join kind q op l r x y ok m b px py =
     subst (λ s. Best kind q s (root_word kind q (join op x y))) (sym over) (subst (Best kind q (union (set_of l) (set_of r))) same b) in
     record { legal = legal; over = over; best = (best, px.best, py.best) }
 
--- the same from a best tree, where each smaller connected set within it has a plan
+-- a plan from a best tree, where each smaller connected set within it has a plan
 plan_of_tree : (kind : ℕ) (q : JoinQuery) (t : JoinTree) → IsQuery q → Legal kind (graph_of q) t → HasBest kind q t → ((x : ℕ) → x < set_of t → Connected (graph_of q) x → Within x (set_of t) → (u : JoinTree) × Plan kind q x u) → (u : JoinTree) × Plan kind q (set_of t) u
 plan_of_tree kind q (leaf r) ok l b below = (leaf r, record { legal = l; over = refl; best = b })
 plan_of_tree kind q (join op l r) ok m b below =

@@ -5,7 +5,7 @@ use Rattle.dpe_base.specs.declared.TheConstants.{COST_LIMIT, SPAN, EMPTY, ROW_CA
 use Rattle.dpe_base.specs.declared.pair.Pair.{Pair}
 use Rattle.dpe_base.specs.Queries.{JoinQuery, relations, IsQuery}
 use Rattle.dpe_base.specs.Sets.{Within, union, full, single, size}
-use Rattle.dpe_base.proofs.SetLaws.{sets}
+use Rattle.dpe_base.proofs.SetLaws.{sets, union_comm}
 use Rattle.dpe_base.proofs.SizeLaws.{size-union, size-single, size_one, size_full, union_add}
 use Rattle.join_graph.specs.Graphs.{Connected, Pairs, pair_of, graph_of}
 use Rattle.card_scaled.specs.Cards.{rows}
@@ -17,7 +17,7 @@ use Rattle.join_graph.specs.PairLists.{SideBuilt}
 use Rattle.join_tree.specs.Laws.{OptimalSubstructure, SidesHaveLeastWords}
 use Rattle.join_tree.specs.Trees.{JoinTree, leaf, join, set_of, cost, root_word, HasWord, Trees, Made, Least, LeastOfPair, LeastOverPairs, Builds}
 use Rattle.join_tree.proofs.TreeCosts.{rows_bounds}
-use Rattle.join_tree.proofs.TreeLaws.{union_comm, connected_small, connected_size_some, connected_single_known, legal_connected, made_legal}
+use Rattle.join_tree.proofs.TreeLaws.{connected_small, connected_size_some, connected_single_known, legal_connected, made_legal}
 use Rattle.join_tree.proofs.BestLaws.{least_single}
 use Rattle.join_tree.proofs.LeastOf.{least_of}
 
@@ -190,10 +190,10 @@ module _ (kind : ℕ) (q : JoinQuery) (pairs : List Pair) (ok : IsQuery q) (buil
               | inr e ↦
                   let is : v ≡ split_word kind one.0 p.b split.second split.first (rows q p.b) (rows q p.a) (rows q (union p.a p.b)) = split.is ∙ e in
                   let turn : split_word kind one.0 p.b split.second split.first (rows q p.b) (rows q p.a) (rows q (union p.b p.a)) ≡ split_word kind one.0 p.b split.second split.first (rows q p.b) (rows q p.a) (rows q (union p.a p.b)) =
-                  ap (λ u. split_word kind one.0 p.b split.second split.first (rows q p.b) (rows q p.a) (rows q u)) (union_comm p.a p.b) in
+                  ap (λ u. split_word kind one.0 p.b split.second split.first (rows q p.b) (rows q p.a) (rows q u)) (union_comm p.b p.a) in
                   let made : Made kind q pairs (union p.b p.a) (joined_word one.0 p.b p.a split.second split.first) =
                   join_made one.0 p.b p.a split.second split.first one.1 split.least_second.made split.least_first.made (inr c) (λ z. least_of_pair_not_empty p v c split (is ∙ sym turn ∙ z)) in
-                  subst (λ x. Made kind q pairs x v) (union_comm p.a p.b) (subst (Made kind q pairs (union p.b p.a)) (turn ∙ sym is) made)
+                  subst (λ x. Made kind q pairs x v) (union_comm p.b p.a) (subst (Made kind q pairs (union p.b p.a)) (turn ∙ sym is) made)
             ]
       ]
 
@@ -227,14 +227,14 @@ module _ (kind : ℕ) (q : JoinQuery) (pairs : List Pair) (ok : IsQuery q) (buil
               join_least op x.1.first x.1.second v l r m h x.1.least_first x.1.least_second,
             )
         | inr c ↦
-            let e' : union (set_of r) (set_of l) ≡ s = union_comm (set_of l) (set_of r) ∙ e in
+            let e' : union (set_of r) (set_of l) ≡ s = union_comm (set_of r) (set_of l) ∙ e in
             let x : (v : ℕ) × LeastOfPair kind q pairs (pair_of (set_of r) (set_of l)) v = each (pair_of (set_of r) (set_of l)) c e' in
             omega (
               arith,
               split.least (pair_of (set_of r) (set_of l)) x.0 c e' x.1,
               x.1.is,
               (best_below_le (operators kind) kind op (set_of r) (set_of l) x.1.first x.1.second (rows q (set_of r)) (rows q (set_of l)) (rows q (union (set_of r) (set_of l))) m.0).1,
-              ap (λ u. split_word kind op (set_of l) x.1.second x.1.first (rows q (set_of l)) (rows q (set_of r)) (rows q u)) (union_comm (set_of l) (set_of r)),
+              ap (λ u. split_word kind op (set_of l) x.1.second x.1.first (rows q (set_of l)) (rows q (set_of r)) (rows q u)) (union_comm (set_of r) (set_of l)),
               join_least op x.1.second x.1.first v l r m h x.1.least_second x.1.least_first,
             )
       ]
@@ -298,7 +298,7 @@ module _ (kind : ℕ) (q : JoinQuery) (pairs : List Pair) (ok : IsQuery q) (buil
   root_pair (join op a b) m many =
       elim m.3 [
         | inl c ↦ (pair_of (set_of a) (set_of b), c, refl)
-        | inr c ↦ (pair_of (set_of b) (set_of a), c, union_comm (set_of a) (set_of b))
+        | inr c ↦ (pair_of (set_of b) (set_of a), c, union_comm (set_of b) (set_of a))
       ]
 
   -- the least word of a set of two relations or more is the least over its pairs

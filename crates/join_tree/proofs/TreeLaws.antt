@@ -5,7 +5,7 @@ use Rattle.dpe_base.specs.declared.TheConstants.{N_MAX, SPAN}
 use Rattle.dpe_base.specs.declared.pair.Pair.{Pair}
 use Rattle.dpe_base.specs.Queries.{JoinQuery, relations, IsQuery}
 use Rattle.dpe_base.specs.Sets.{Within, union, single, full, size}
-use Rattle.dpe_base.proofs.SetLaws.{sets, same_set, member-same}
+use Rattle.dpe_base.proofs.SetLaws.{sets, member-same}
 use Rattle.dpe_base.proofs.SizeLaws.{size_none, size-union, within_span}
 use Rattle.join_graph.specs.Graphs.{JoinGraph, Connected, Pairs, pair_of, graph_of}
 use Rattle.join_graph.proofs.GraphLaws.{crossed_back, connected_union, connected_single, pair_either, grown_pair}
@@ -14,9 +14,6 @@ use Rattle.join_tree.specs.Laws.{AllPairs}
 use Rattle.join_tree.specs.Trees.{JoinTree, leaf, join, set_of, Legal, LeavesBelow, Trees, Builds}
 
 -- ---- sets
-
-pub union_comm : (a b : ℕ) → union b a ≡ union a b
-union_comm a b = same_set _ _ (λ r. grind (arith, sets))
 
 -- a connected set has a relation
 pub connected_size_some : (g : JoinGraph) (s : ℕ) → Connected g s → 1 ≤ size s

@@ -18,8 +18,11 @@ pub enum Tree {
     Leaf(u8),
     /// A join by an operator of the cost model.
     Join {
+        /// The operator's number in the model.
         op: u8,
+        /// The tree whose rows the operator takes on the left.
         left: Box<Tree>,
+        /// The tree on the right.
         right: Box<Tree>,
     },
 }

@@ -11,7 +11,7 @@ use Rattle.memo_table.specs.declared.view.TreeSpace.{TreeSpace}
 use Rattle.memo_table.specs.Views.{EachOnceBelow}
 use Rattle.memo_table.specs.Rule.{TableState, memo_word, counter, Kept}
 use Rattle.memo_table.specs.Finishing.{IsLeastBound}
-use Rattle.memo_table.proofs.Bounds.{none_stands}
+use Rattle.pair_stream.proofs.Lists.{contains_none}
 use Rattle.memo_table.proofs.Counting.{knowing}
 use Rattle.memo_table.proofs.Holding.{live_of, others_spent}
 use Rattle.memo_table.proofs.TreeWords.{made_below}
@@ -24,7 +24,7 @@ module _ (kind : ℕ) (space : TreeSpace) where
       (λ (e : h.seat ≡ id).
       let same : h.view ≡ v = some-injective h.view v (sym h.at ∙ (ap (λ (i : ℕ). get_elem? s.views i) e ∙ at)) in
       let F : View → Type 0 = λ u. Contains u.bounds (t, x) in subst F same h.bound)
-      (λ (ne' : h.seat ≢ id). let F : View → Type 0 = λ u. Contains u.bounds (t, x) in absurd (none_stands (t, x) (subst F (others_spent kind space s id v k at all h.seat h.view ne' h.at) h.bound))) in
+      (λ (ne' : h.seat ≢ id). let F : View → Type 0 = λ u. Contains u.bounds (t, x) in absurd (contains_none (t, x) (subst F (others_spent kind space s id v k at all h.seat h.view ne' h.at) h.bound))) in
       let live = live_of kind space s.words v (k.views id v at) (omega arith) in
       let below : (b : ℕ) → Contains v.bounds (t, b) → (x ≤ b) × (x ≢ EMPTY) = λ b has.
       let g = live.bounds (t, b) has in

@@ -13,7 +13,7 @@ use Rattle.memo_table.specs.Views.{with_bound, with_offer}
 use Rattle.memo_table.specs.Making.{leaf_word, HasLeaves, IsOpen}
 use Rattle.memo_table.specs.Rule.{IsTreeSpace}
 use Rattle.memo_table.specs.Seats.{MemoTable, SeatView, Settled}
-use Rattle.memo_table.proofs.Bounds.{first_stands, others_stand, first_or_other, none_stands}
+use Rattle.pair_stream.proofs.Lists.{contains_head, contains_tail, contains_cases, contains_none}
 use Rattle.memo_table.proofs.TreeWords.{leaf_least}
 
 abbrev leaf_bound : ℕ → ℕ × ℕ
@@ -47,7 +47,7 @@ leaves_settled kind space v is query pairs has r l = record {
 
 pub no_leaves : (v : View) → v.bounds ≡ [] → HasLeaves 0 v
 no_leaves v e b = (
-  (λ has. let F : List (ℕ × ℕ) → Type 0 = λ l. Contains l b in absurd (none_stands b (subst F e has))),
+  (λ has. let F : List (ℕ × ℕ) → Type 0 = λ l. Contains l b in absurd (contains_none b (subst F e has))),
   (λ x. let l : x.0 < 0 = x.1 in absurd (omega arith)),
 )
 
@@ -56,11 +56,11 @@ leaves_more r v has b = (
   (λ c. ⊎_elim
       (λ (e : leaf_bound r ≡ b). (r, omega arith, sym e))
       (λ old. let x = (has b).0 old in (x.0, (let l = x.1 in omega arith), x.2))
-      (first_or_other (leaf_bound r) v.bounds b c)),
+      (contains_cases (leaf_bound r) v.bounds b c)),
   (λ x. dite (ℕ_discrete x.0 r)
       (λ (e : x.0 ≡ r). let F : ℕ × ℕ → Type 0 = Contains (with_bound v (single r) (leaf_word r)).bounds in
-      subst F (sym (x.2 ∙ ap leaf_bound e)) (first_stands (leaf_bound r) v.bounds))
-      (λ (ne : x.0 ≢ r). others_stand (leaf_bound r) v.bounds b ((has b).1 (x.0, (let l = x.1 in omega arith), x.2)))),
+      subst F (sym (x.2 ∙ ap leaf_bound e)) (contains_head (leaf_bound r) v.bounds))
+      (λ (ne : x.0 ≢ r). contains_tail (leaf_bound r) v.bounds b ((has b).1 (x.0, (let l = x.1 in omega arith), x.2)))),
 )
 
 pub opens_more : (memo : MemoTable) (before now after : SeatView) (r : ℕ) → IsOpen memo before now r → after.table ≡ now.table → after.view ≡ with_offer now.view (single r) (leaf_word r) → r < N_MAX

@@ -1,5 +1,4 @@
 pub mod Counting
-mod Bounds
 mod MemoWords
 mod TreeWords
 mod Holding

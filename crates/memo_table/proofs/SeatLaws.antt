@@ -11,7 +11,7 @@ use Rattle.join_tree.specs.Trees.{Made}
 use Rattle.memo_table.specs.declared.view.View.{View}
 use Rattle.memo_table.specs.Views.{with_bound, with_offer}
 use Rattle.memo_table.specs.Seats.{IsMadeBound, BoundsAreMade, IsSeated}
-use Rattle.memo_table.proofs.Bounds.{first_or_other}
+use Rattle.pair_stream.proofs.Lists.{contains_cases}
 
 abbrev TableSeat : Type 0
 TableSeat = Seat (Unit {0}) View
@@ -32,7 +32,7 @@ module _ (kind : ℕ) where
   made_with_bound v t x all some within made b has = ⊎_elim
       (λ (e : (t, x) ≡ b). let F : ℕ × ℕ → Type 0 = IsMadeBound kind v.query v.pairs in subst F e record { some = some; within = within; made = made })
       (λ old. all b old)
-      (first_or_other (t, x) v.bounds b has)
+      (contains_cases (t, x) v.bounds b has)
 
   pub made_with_offer : (v : View) (t x : ℕ) → BoundsAreMade kind v → t ≢ 0 → Within t (full (relations v.query)) → (x ≡ EMPTY) ⊎ Made kind v.query v.pairs t x → BoundsAreMade kind (with_offer v t x)
   made_with_offer v t x all some within word =

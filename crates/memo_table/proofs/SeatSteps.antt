@@ -11,7 +11,7 @@ use Rattle.memo_table.specs.declared.view.View.{View}
 use Rattle.memo_table.specs.declared.view.TreeSpace.{TreeSpace}
 use Rattle.memo_table.specs.Views.{spent_view, kept_part, given_part, joined_view}
 use Rattle.memo_table.specs.Rule.{memo_word, counter, IsBound, IsLive, Kept}
-use Rattle.memo_table.proofs.Bounds.{none_stands}
+use Rattle.pair_stream.proofs.Lists.{contains_none}
 use Rattle.memo_table.proofs.Counting.{at_inside, splitting, joining}
 use Rattle.memo_table.proofs.Holding.{Fits, live_of, each_set, held_set}
 
@@ -36,7 +36,7 @@ module _ (kind : ℕ) (space : TreeSpace) where
 
   -- the bounds of a view that fits are bounds
   bounds_of : (ws : List ℕ) (w : View) → Fits kind space ws w → (b : ℕ × ℕ) → Contains w.bounds b → IsBound kind space ws b
-  bounds_of ws w f b has = ⊎_elim (λ (e : w ≡ spent_view). let F : View → Type 0 = λ u. Contains u.bounds b in absurd (none_stands b (subst F e has))) (λ (l : IsLive kind space ws w). l.bounds b has) f
+  bounds_of ws w f b has = ⊎_elim (λ (e : w ≡ spent_view). let F : View → Type 0 = λ u. Contains u.bounds b in absurd (contains_none b (subst F e has))) (λ (l : IsLive kind space ws w). l.bounds b has) f
 
   floor_of : (ws : List ℕ) (w : View) → Fits kind space ws w → w.floor ≤ counter ws
   floor_of ws w f = ⊎_elim (λ (e : w ≡ spent_view). let q : w.floor ≡ 0 = ap (λ (u : View). u.floor) e in omega arith) (λ (l : IsLive kind space ws w). l.floor) f

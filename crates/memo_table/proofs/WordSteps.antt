@@ -16,7 +16,7 @@ use Rattle.memo_table.specs.declared.view.TreeSpace.{TreeSpace}
 use Rattle.memo_table.specs.Views.{with_bound, with_offer}
 use Rattle.memo_table.specs.Rule.{TableState, memo_word, counter, Counts, IsEmptyOrMade, IsBound, IsLive, IsTreeSpace, AreMemoWords, Kept}
 use Rattle.memo_table.specs.Steps.{SeatState, FindsWord, load_tells, offer_tells}
-use Rattle.memo_table.proofs.Bounds.{first_stands, others_stand, first_or_other}
+use Rattle.pair_stream.proofs.Lists.{contains_head, contains_tail, contains_cases}
 use Rattle.memo_table.proofs.Counting.{staying}
 use Rattle.memo_table.proofs.Holding.{live_of, moved, turned}
 use Rattle.memo_table.proofs.MemoWords.{counter_beside, word_here, word_else}
@@ -48,7 +48,7 @@ module _ (kind : ℕ) (space : TreeSpace) where
         let F : ℕ × ℕ → Type 0 = IsBound kind space s.words in
         subst F e record { some = g.some; within = g.within; made = f.2; reached = le_refl _ })
         (λ old. live.bounds b old)
-        (first_or_other (t, memo_word s.words t) v.bounds b has);
+        (contains_cases (t, memo_word s.words t) v.bounds b has);
   }
 
   pub loads : (slots id : ℕ) (me : SeatState) (t y : ℕ) → 1 ≤ me.0.weight → Contains me.0.bounds (t, y)
@@ -72,7 +72,7 @@ module _ (kind : ℕ) (space : TreeSpace) where
         w,
         keeps,
         tt,
-        turned kind space s id v w k at (λ b has. others_stand (t, x) v.bounds b has) (loading s v t y k live h) (staying (counter s.words) s.views id v w k.counts at refl refl refl) (t + 1),
+        turned kind space s id v w k at (λ b has. contains_tail (t, x) v.bounds b has) (loading s v t y k live h) (staying (counter s.words) s.views id v w k.counts at refl refl refl) (t + 1),
         (refl, told),
       )
 
@@ -139,7 +139,7 @@ module _ (kind : ℕ) (space : TreeSpace) where
         (λ (h : (n ≤ w) × (min n w ≡ n)). inl (now ∙ (h.1 ∙ sym was)))
         (λ (h : (w ≤ n) × (min n w ≡ w)).
         let G : ℕ → Type 0 = λ a. Contains (with_bound v t w).bounds (t, a) in
-        inr (subst G (sym (now ∙ h.1)) (first_stands (t, w) v.bounds)))
+        inr (subst G (sym (now ∙ h.1)) (contains_head (t, w) v.bounds)))
         (min_is n w)))
         (λ (ne' : u ≢ t). inl (word_else s.words (min n w) t u ne')) in
         let live' : IsLive kind space lowered (with_bound v t w) = record {
@@ -152,9 +152,9 @@ module _ (kind : ℕ) (space : TreeSpace) where
               let F : ℕ × ℕ → Type 0 = IsBound kind space lowered in
               subst F e record { some = some'; within = within; made = made; reached = let p = now in omega arith })
               (λ old. let g = live.bounds b old in record { some = g.some; within = g.within; made = g.made; reached = let d = lower b.0 in let r = g.reached in omega arith })
-              (first_or_other (t, w) v.bounds b has);
+              (contains_cases (t, w) v.bounds b has);
         } in
-        moved kind space s (t + 1) (min n w) id v (with_bound v t w) k at up lower memo cover (λ b h. others_stand (t, w) v.bounds b h) live'
+        moved kind space s (t + 1) (min n w) id v (with_bound v t w) k at up lower memo cover (λ b h. contains_tail (t, w) v.bounds b h) live'
         (let F : ℕ → Type 0 = λ a. Counts a (set s.views id (with_bound v t w)) in
         subst F (sym (counter_beside s.words (min n w) t)) (staying (counter s.words) s.views id v (with_bound v t w) k.counts at refl refl refl))
 

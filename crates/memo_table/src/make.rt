@@ -1,6 +1,6 @@
 //! Making a memo.
 ghost use Rattle.std.specs.Prelude.{◌≡◌, ℕ, ◌<◌, ◌≤◌, [], IfOk, Contains};
-ghost use Rattle.dpe_base.specs.Queries.{relations, IsQuery};
+ghost use Rattle.dpe_base.specs.Queries.{relations};
 ghost use Rattle.dpe_base.specs.Sets.{single};
 ghost use Rattle.dpe_base.specs.declared.pair.Pair.{Pair};
 ghost use Rattle.join_graph.specs.Graphs.{Pairs, graph_of};

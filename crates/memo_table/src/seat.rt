@@ -1,4 +1,7 @@
 //! A seat at a memo.
+ghost use Rattle.std.specs.Prelude.{◌≤◌};
+ghost use Rattle.memo_table.specs.Seats.{BoundsAreMade};
+
 use crate::view::View;
 use atomic_table::Seat;
 use cost_model::CostModel;
@@ -24,4 +27,14 @@ impl<M: CostModel> Model for MemoSeat<M> {
     ghost view = { λ s. record { table = s.seat.table_id; view = s.seat.me.0 } };
 
     ghost invariant = { λ s. IsSeated M.KIND s.seat };
+}
+
+impl<M: CostModel> MemoSeat<M> {
+    /// What its holder knows without a step: each bound is the word of a tree over its set, and there is some weight.
+    pub fn recall(&self)
+        ensures made { BoundsAreMade M.KIND self.now.view }
+        ensures weight { 1 ≤ self.now.view.weight }
+    {
+        let _ = &self.seat;
+    }
 }

@@ -1,4 +1,4 @@
-ghost use Rattle.std.specs.Prelude.{◌≡◌, ℕ, ◌≤◌, ◌<◌, [], ◌∷◌, IfOk, vec_len, vec_capacity};
+ghost use Rattle.std.specs.Prelude.{◌≡◌, ◌≤◌, [], ◌∷◌, IfOk, vec_capacity};
 ghost use Rattle.memo_table.specs.Seats.{IsSeatOf};
 
 use crate::{Memo, MemoSeat};
@@ -52,6 +52,7 @@ fn a_greater_word_lowers_nothing(rt: HostRuntime) -> Result<(), Fail> {
     assert_eq!(rt; tickets, (0, 1));
     let drawn = memo.drawn(&mut seat);
     assert_eq!(rt; drawn, 2);
+    seat.recall();
     let words = memo.finish(seat);
     assert_eq!(rt;
         words.row(),

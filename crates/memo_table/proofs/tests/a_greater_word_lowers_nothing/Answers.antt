@@ -1,7 +1,7 @@
 use Rattle.std.proofs.Common.{◌≡◌, Contains, inr, sym, subst, ap, ◌∙◌}
 use Rattle.join_graph.specs.Graphs.{JoinGraph, Pairs, graph_of}
 use Rattle.memo_table.specs.declared.view.View.{View}
-use Rattle.memo_table.proofs.Bounds.{first_stands}
+use Rattle.pair_stream.proofs.Lists.{contains_head}
 use Rattle.memo_table.proofs.TwoRelations.{two_relations, is_two, both_within, pair_listed, made_at, first_left, second_left}
 use Rattle.memo_table.proofs.tests.a_greater_word_lowers_nothing.Goals as goal
 
@@ -23,7 +23,7 @@ offer-requires-clause-word g c κs =
 pub load-first-requires-clause-held : goal.load-first-requires-clause-held
 load-first-requires-clause-held g c κs =
     let F : View → Type 0 = λ v. Contains v.bounds (c.of_bits-both.result, 340787201) in
-    (340787201, subst F (sym c.offer.ensures.view) (first_stands (c.of_bits-both.result, 340787201) c.in_ok-memo.seat.view.bounds))
+    (340787201, subst F (sym c.offer.ensures.view) (contains_head (c.of_bits-both.result, 340787201) c.in_ok-memo.seat.view.bounds))
 
 pub offer-requires-2-clause-within : goal.offer-requires-2-clause-within
 offer-requires-2-clause-within g c κs =

@@ -3,7 +3,7 @@ use Rattle.std.proofs.Math.Pow.{pow_mono}
 use Rattle.dpe_base.specs.declared.TheConstants.{N_MAX}
 use Rattle.dpe_base.specs.Queries.{relations}
 use Rattle.memo_table.specs.Seats.{TableId}
-use Rattle.memo_table.proofs.Bounds.{none_stands}
+use Rattle.pair_stream.proofs.Lists.{contains_none}
 use Rattle.memo_table.proofs.MemoWords.{opening_width}
 use Rattle.memo_table.proofs.memo.Memo.opened.Goals as goal
 
@@ -20,5 +20,5 @@ invariant_of-seat g c =
       weight = search rules;
       width = width;
       small = omega arith;
-      bounds = λ b has. let F : List _ → Type 0 = λ l. Contains l b in absurd (none_stands b (subst F view has));
+      bounds = λ b has. let F : List _ → Type 0 = λ l. Contains l b in absurd (contains_none b (subst F view has));
     }
