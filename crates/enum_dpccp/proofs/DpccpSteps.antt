@@ -1,5 +1,5 @@
 -- One step of the stream.
-use Rattle.std.proofs.Common.{◌≡◌, ℕ, sym, ◌∙◌, ap, true, List, [], ◌∷◌, ◌++◌, map}
+use Rattle.std.proofs.Common.{◌≡◌, ℕ, sym, ◌∙◌, ap, List, [], ◌∷◌, ◌++◌, map}
 use Rattle.std.specs.List.{flat_map}
 use Rattle.dpe_base.specs.declared.pair.Pair.{Pair}
 use Rattle.join_graph.specs.Graphs.{JoinGraph, pair_of}

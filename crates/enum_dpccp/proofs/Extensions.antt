@@ -4,7 +4,7 @@ use Rattle.std.specs.List.{AllPairs, Contains, flat_map}
 use Rattle.std.proofs.lemmas.Bool.{cases_eq}
 use Rattle.std.proofs.lemmas.List.Elements.{Contains-append_left, Contains-append_right, Contains-append_cases}
 use Rattle.dpe_base.specs.Sets.{Has, Within, Disjoint, member, union, inter, minus, full, size}
-use Rattle.dpe_base.proofs.SetLaws.{sets, same_set, member-same, union_left, union_right, union_cases, inter_right, minus_has, minus_left, minus_right, within_same}
+use Rattle.dpe_base.proofs.SetLaws.{sets, same_set, member-same, union_left, union_right, union_cases, full_has, inter_right, minus_has, minus_left, minus_right, within_same}
 use Rattle.dpe_base.proofs.NextSubset.{within_le}
 use Rattle.dpe_base.proofs.SizeLaws.{size-union, size_none}
 use Rattle.join_graph.specs.Graphs.{JoinGraph, IsGraph, Edge, Crossed, Connected, IsFrontier}
@@ -12,9 +12,10 @@ use Rattle.join_graph.proofs.Growth.{connected_more}
 use Rattle.pair_stream.specs.Subsets.{subsets}
 use Rattle.pair_stream.specs.Connectivity.{neighbours}
 use Rattle.pair_stream.proofs.Lists.{contains_map, contains_from_map, contains_flat_map, contains_from_flat_map, contains_none, pairs_nil, pairs_append, pairs_map, pairs_flat_map}
-use Rattle.pair_stream.proofs.SubsetLaws.{subsets_has, subsets_ascend}
+use Rattle.pair_stream.proofs.SubsetLaws.{subsets_has, subsets_ascend, positive}
 use Rattle.pair_stream.proofs.ConnectivityLaws.{neighbours_is}
 use Rattle.enum_dpccp.specs.Dpccp.{neighbours_outside, extensions}
+use Rattle.enum_dpccp.proofs.Depth.{outside_apart}
 
 -- t is connected, contains s and more, and has no member of x outside s
 pub record IsExtension (g : JoinGraph) (s x t : ℕ) : Type 0 where
@@ -93,9 +94,6 @@ part_smaller s n u d ne =
     apart : (r : ℕ) → Has (inter u n) r → Has (minus u (union s (inter u n))) r → ⊥
     apart r x y = grind (arith, sets)
 
-has_full : (n r : ℕ) → r < n → Has (full n) r
-has_full n r l = grind (arith, sets)
-
 -- no later set lies within an earlier one
 abbrev pub NotWithin : ℕ → ℕ → Type 0
 NotWithin a c = Within c a → ⊥
@@ -110,9 +108,6 @@ module _ (g : JoinGraph) (ok : IsGraph g) where
   outside_self : (s x : ℕ) → Disjoint (neighbours_outside g s x) s
   outside_self s x r h k = ((neighbours_is g s ok r).0 (minus_left (neighbours g s) x r h)).0 k
 
-  outside_free : (s x : ℕ) → Disjoint (neighbours_outside g s x) x
-  outside_free s x r h k = minus_right (neighbours g s) x r h k
-
   -- s and neighbours of it are connected together
   pub connected_step : (s x t : ℕ) → Connected g s → Within t (neighbours_outside g s x) → Connected g (union s t)
   connected_step s x t c w = connected_more g s (union s t) t c in_graph frontier
@@ -124,7 +119,7 @@ module _ (g : JoinGraph) (ok : IsGraph g) where
       in_graph r h =
           elim (union_cases s t r h) [
             | inl a ↦ c.within r a
-            | inr b ↦ has_full g.n r (ok.known (near r b).1.0 r (near r b).1.2).1
+            | inr b ↦ full_has g.n r (ok.known (near r b).1.0 r (near r b).1.2).1
           ]
 
       right : (r : ℕ) → Has (union s t) r → (Has s r → ⊥) → Has t r
@@ -168,7 +163,7 @@ module _ (g : JoinGraph) (ok : IsGraph g) where
         connected = connected_step s x t c w;
         within = λ r h. union_left s t r h;
         larger = λ e. none e;
-        free = λ r h k. elim (union_cases s t r h) [ inl a ↦ a | inr b ↦ absurd (outside_free s x r (w r b) k) ];
+        free = λ r h k. elim (union_cases s t r h) [ inl a ↦ a | inr b ↦ absurd (outside_apart g ok s x r (w r b) k) ];
       }
     where
       none : s ≡ union s t → ⊥
@@ -187,7 +182,7 @@ module _ (g : JoinGraph) (ok : IsGraph g) where
         connected = b.connected;
         within = within_left s t u b.within;
         larger = λ e. b.larger (within_same (union s t) u b.within (λ r h. union_left s t r (subst (λ k. Has k r) (sym e) h)));
-        free = free_up s x (neighbours_outside g s x) t u (outside_free s x) w b.free;
+        free = free_up s x (neighbours_outside g s x) t u (outside_apart g ok s x) w b.free;
       }
 
   -- a set beyond s is reached by one step with its part next to s, or lies beyond that
@@ -249,9 +244,6 @@ module _ (g : JoinGraph) (ok : IsGraph g) where
     where
       some_in : (u n r : ℕ) → Has u r → Has n r → inter u n ≢ 0
       some_in u n r h k e = grind (arith, sets, member-same e r)
-
-      positive : (p : ℕ) → p ≢ 0 → 0 < p
-      positive p ne = elim (cases_eq p 0) [ inl e ↦ absurd (ne e) | inr x ↦ omega arith ]
 
   -- ---- in what order
 

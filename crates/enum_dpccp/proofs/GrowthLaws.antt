@@ -34,9 +34,6 @@ module _ (g : JoinGraph) (ok : IsGraph g) where
   outside_from : (s x r k : ℕ) → (Has s r → ⊥) → (Has x r → ⊥) → Has s k → Edge g k r → Has (neighbours_outside g s x) r
   outside_from s x r k not_in not_out h e = minus_has (neighbours g s) x r ((neighbours_is g s ok r).1 (not_in, (k, h, e))) not_out
 
-  out : (s x r : ℕ) → Has (neighbours_outside g s x) r → Has x r → ⊥
-  out s x r h k = minus_right (neighbours g s) x r h k
-
   -- the neighbours of the base are excluded, so those of the subset are all that are new
   pub child_neighbours : (c : Call) (k t : ℕ) → CallFits g k c → Within t c.neighbours → neighbours_outside g t c.excluded ≡ neighbours_outside g (union c.base t) c.excluded
   child_neighbours c k t fits w = within_same (neighbours_outside g t c.excluded) (neighbours_outside g (union c.base t) c.excluded) forth back
@@ -46,15 +43,15 @@ module _ (g : JoinGraph) (ok : IsGraph g) where
           let e : (k : ℕ) × Has t k × Edge g k r = joined t c.excluded r h in
           outside_from (union c.base t) c.excluded r e.0
           (λ m. elim (union_cases c.base t r m) [
-            | inl b ↦ out t c.excluded r h (fits.base_excluded r b)
-            | inr b ↦ out t c.excluded r h (fits.neighbours_excluded r (w r b))
+            | inl b ↦ outside_apart g ok t c.excluded r h (fits.base_excluded r b)
+            | inr b ↦ outside_apart g ok t c.excluded r h (fits.neighbours_excluded r (w r b))
           ])
-          (out t c.excluded r h) (union_right c.base t e.0 e.1) e.2
+          (outside_apart g ok t c.excluded r h) (union_right c.base t e.0 e.1) e.2
 
       back : Within (neighbours_outside g (union c.base t) c.excluded) (neighbours_outside g t c.excluded)
       back r h =
           let e : (k : ℕ) × Has (union c.base t) k × Edge g k r = joined (union c.base t) c.excluded r h in
-          let x : Has c.excluded r → ⊥ = out (union c.base t) c.excluded r h in
+          let x : Has c.excluded r → ⊥ = outside_apart g ok (union c.base t) c.excluded r h in
           elim (union_cases c.base t e.0 e.1) [
             | inl b ↦ absurd (x (fits.joined_excluded r ((neighbours_is g c.base ok r).1 ((λ m. x (fits.base_excluded r m)), (e.0, b, e.2)))))
             | inr b ↦ outside_from t c.excluded r e.0 (λ m. x (fits.neighbours_excluded r (w r m))) x b e.2
@@ -71,7 +68,7 @@ module _ (g : JoinGraph) (ok : IsGraph g) where
       some : (r : ℕ) × Has (neighbours_outside g t c.excluded) r → ⊥
       some m =
           let e : (k : ℕ) × Has t k × Edge g k m.0 = joined t c.excluded m.0 m.1 in
-          let x : Has c.excluded m.0 → ⊥ = out t c.excluded m.0 m.1 in
+          let x : Has c.excluded m.0 → ⊥ = outside_apart g ok t c.excluded m.0 m.1 in
           has_some (neighbours_outside g c.neighbours c.excluded) m.0
           (outside_from c.neighbours c.excluded m.0 e.0 (λ h. x (fits.neighbours_excluded m.0 h)) x (w e.0 e.1) e.2) none
 

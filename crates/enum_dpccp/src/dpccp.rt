@@ -1,7 +1,6 @@
-ghost use Rattle.std.specs.Prelude.{◌≡◌, refl, IsTrue, IsNone, List};
+ghost use Rattle.std.specs.Prelude.{◌≡◌, refl, List};
 ghost use Rattle.dpe_base.specs.declared.pair.Pair.{Pair};
 ghost use Rattle.pair_stream.specs.Orders.{Ordered, Complete};
-ghost use Rattle.pair_stream.specs.Streams.{is_over};
 ghost use Rattle.enum_dpccp.specs.Dpccp.{seq_dpccp};
 
 use crate::sides::{FirstSides, SecondSides};

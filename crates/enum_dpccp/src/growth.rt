@@ -1,4 +1,4 @@
-ghost use Rattle.std.specs.Prelude.{◌≡◌, ◌≢◌, ℕ, ◌++◌, [], length, IfSome, IsNone};
+ghost use Rattle.std.specs.Prelude.{◌≡◌, ◌≢◌, ℕ, ◌++◌, [], length, IfSome};
 ghost use Rattle.std.specs.Option.{IfNone};
 ghost use Rattle.dpe_base.specs.Sets.{Within, full, union};
 ghost use Rattle.enum_dpccp.specs.Dpccp.{neighbours_outside, all_extensions};
@@ -8,28 +8,34 @@ use arrayvec::ArrayVec;
 use dpe_base::{N_MAX, RelSet};
 use join_graph::Graph;
 
-/// One call of the recursion: the set that it extends, the neighbours of it that are not excluded, what
-/// its own calls exclude, the neighbours among them, and the last subset of the neighbours that was taken.
+/// One call of the recursion.
 #[derive(Clone, Copy, Debug, Default)]
 pub struct Call {
+    /// The set that it extends.
     pub base: RelSet,
+    /// The neighbours of the base that are not excluded.
     pub neighbours: RelSet,
+    /// What its own calls exclude, the neighbours among them.
     pub excluded: RelSet,
+    /// The last subset of the neighbours that was taken.
     pub last: RelSet,
 }
 
-/// A call that has something to give: the subset that leads to it, and its neighbours.
+/// A call that has something to give.
 #[derive(Clone, Copy, Debug)]
 pub struct Child {
+    /// The subset that leads to it.
     pub last: RelSet,
+    /// Its neighbours.
     pub neighbours: RelSet,
 }
 
-/// The extensions of a connected set, a step at a time: the call that gives its own sets, and those
-/// around it, which have given theirs, the innermost last.
+/// The extensions of a connected set, a step at a time.
 #[derive(Drop)]
 pub struct Growth {
+    /// The call that gives its own sets.
     pub giving: Call,
+    /// The calls around it, which have given theirs, the innermost last.
     pub calling: ArrayVec<Call, N_MAX>,
 }
 

@@ -1,6 +1,5 @@
-ghost use Rattle.std.specs.Prelude.{◌≡◌, ℕ, ◌≤◌, [], IfSome, MatchOption};
+ghost use Rattle.std.specs.Prelude.{◌≡◌, [], IfSome, MatchOption};
 ghost use Rattle.std.specs.Option.{IfNone};
-ghost use Rattle.dpe_base.specs.Sets.{Within, full};
 ghost use Rattle.join_graph.specs.Graphs.{Connected};
 ghost use Rattle.enum_dpccp.specs.Dpccp.{excluded, first_sides, second_sides};
 ghost use Rattle.enum_dpccp.specs.Growth.{growth_left, TakesSet};
@@ -13,18 +12,20 @@ use join_graph::Graph;
 /// The connected sets as first sides: from each relation, the greatest first, those without a smaller one.
 #[derive(Drop)]
 pub struct FirstSides {
+    /// Those from the relation at hand.
     pub growth: Growth,
-    // The relations below it are still to come.
+    /// The relations below it are still to come.
     pub relations: u8,
 }
 
 /// The second sides of one first side: from each start, the greatest first, those without a smaller one.
 #[derive(Drop)]
 pub struct SecondSides {
+    /// Those from the start at hand.
     pub growth: Growth,
-    // What no second side has.
+    /// What no second side has.
     pub excluded: RelSet,
-    // The starts that are still to come.
+    /// The starts that are still to come.
     pub starts: RelSet,
 }
 
@@ -52,6 +53,7 @@ fn excluded(graph: &Graph, a: RelSet) -> RelSet
 }
 
 impl FirstSides {
+    /// All first sides of the graph are left.
     pub fn over(graph: &Graph) -> FirstSides
         ensures left { first_left graph.now result ≡ first_sides graph.now }
         ensures fits { FirstFits graph.now result }

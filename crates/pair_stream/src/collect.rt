@@ -1,4 +1,5 @@
-ghost use Rattle.std.specs.Prelude.{◌≡◌, ◌<◌, IfOk, IsTrue, OnOk};
+ghost use Rattle.std.specs.Prelude.{◌≡◌, ◌<◌, ◌++◌, List, IfOk, IsTrue, OnOk};
+ghost use Rattle.dpe_base.specs.declared.pair.Pair.{Pair};
 
 use crate::stream::PairStream;
 use dpe_base::{Pair, Steps};
@@ -17,6 +18,8 @@ fn collect_counting<L: Ledger, S: PairStream>(
     requires some { 0 < L.parts }
     ensures pairs { IfOk result (λ v. v.items ≡ S.left stream.old) }
     ensures end { OnOk result (IsTrue (S.ended stream.new)) }
+    ensures total { S.total stream.new ≡ S.total stream.old }
+    ensures given { (given : List Pair) × (S.left stream.old ≡ given ++ S.left stream.new) }
 {
     let mut steps = Steps::<L>::new(blank);
     let mut pairs = Vec::new(alloc);
@@ -30,6 +33,8 @@ fn collect_counting<L: Ledger, S: PairStream>(
 pub fn collect_pairs<S: PairStream>(alloc: Global, stream: &mut S) -> Result<Vec<Pair>, AllocError>
     ensures pairs { IfOk result (λ v. v.items ≡ S.left stream.old) }
     ensures end { OnOk result (IsTrue (S.ended stream.new)) }
+    ensures total { S.total stream.new ≡ S.total stream.old }
+    ensures given { (given : List Pair) × (S.left stream.old ≡ given ++ S.left stream.new) }
 {
     collect_counting::<Brand, S>(alloc, stream, Blank::new(1))
 }

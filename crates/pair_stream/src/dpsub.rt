@@ -1,12 +1,10 @@
-ghost use Rattle.std.specs.Prelude.{◌≡◌, refl, ◌≢◌, ℕ, ◌+◌, ◌≤◌, IsTrue, IsNone, IfSome, List};
+ghost use Rattle.std.specs.Prelude.{◌≡◌, refl, IfSome, List};
 ghost use Rattle.std.specs.Option.{IfNone};
 ghost use Rattle.dpe_base.specs.declared.pair.Pair.{Pair};
 ghost use Rattle.dpe_base.specs.Sets.{Has, Within, full};
-ghost use Rattle.join_graph.specs.Graphs.{IsGraph};
 ghost use Rattle.pair_stream.specs.Subsets.{least, IsNextWithLeast};
 ghost use Rattle.pair_stream.specs.Orders.{Ordered, Complete};
-ghost use Rattle.pair_stream.specs.Dpsub.{is_split, dpsub_left, seq_dpsub};
-ghost use Rattle.pair_stream.specs.Streams.{Takes, is_over};
+ghost use Rattle.pair_stream.specs.Dpsub.{is_split, seq_dpsub};
 
 use crate::stream::PairStream;
 use dpe_base::{N_MAX, Pair, RelSet, Steps};
@@ -89,7 +87,7 @@ impl DpSub {
 }
 
 impl PairStream for DpSub {
-    ghost use Rattle.pair_stream.specs.Streams.{is_over};
+    ghost use Rattle.pair_stream.specs.Streams.{is_over, over_is_empty};
 
     ghost left = { λ s. s };
 
@@ -127,8 +125,6 @@ impl PairStream for DpSub {
     fn probes(&self) -> u64 {
         0
     }
-
-    ghost use Rattle.pair_stream.specs.Streams.{over_is_empty};
 
     ghost at_end = { λ s t. (over_is_empty s t, refl) };
 }

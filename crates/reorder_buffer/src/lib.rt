@@ -15,3 +15,8 @@ pub const SIZES: usize = 33;
 
 /// The most pairs that a buffer has room for.
 pub const ROOM_MAX: u32 = 65536;
+
+// A set has 32 binary digits, and a place has 16.
+const _: () = prove!(SIZES == u32::BITS as usize + 1);
+
+const _: () = prove!(ROOM_MAX == 1 << u16::BITS);
