@@ -49,9 +49,6 @@ single_before i j l m =
     first = ap (λ o. ordering_then o (slice_cmp nat_cmp [] [])) (nat_cmp_is i j Less l)
 
 module _ (g : JoinGraph) (ok : IsGraph g) where
-  singles : List ℕ
-  singles = map single (range_with_len 0 g.n)
-
   singles_before : AllPairs Before (map single (range_with_len 0 g.n))
   singles_before =
       pairs_map Before (λ x y. x < y) single (range_with_len 0 g.n) (pairs_range 0 g.n)

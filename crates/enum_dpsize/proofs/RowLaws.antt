@@ -48,7 +48,7 @@ split ys j y l e = drop-cons ys j y l ∙ ap (λ (k : ℕ). k ∷ drop (suc j) y
     next : suc j ≡ j + 1
     next = omega arith
 
--- the next set of the row is_joinable
+-- the next set of the row can be joined
 pub row_taken : (g : JoinGraph) (ys : List ℕ) (x j y : ℕ) (p : Pair) → j < length ys → y ≡ get_or ys j y → true ≡ is_joinable g x y → p ≡ pair_by_least x y → pairs_with g (drop j ys) x ≡ p ∷ pairs_with g (drop (j + 1) ys) x
 unfolding pairs_with
 row_taken g ys x j y p l ey t ep =
@@ -56,7 +56,7 @@ row_taken g ys x j y p l ey t ep =
     ∙ ap (map (pair_by_least x)) (cond-true (is_joinable g x y) (y ∷ filter (is_joinable g x) (drop (j + 1) ys)) (filter (is_joinable g x) (drop (j + 1) ys)) (sym t))
     ∙ ap (λ q. q ∷ map (pair_by_least x) (filter (is_joinable g x) (drop (j + 1) ys))) (sym ep)
 
--- it does not
+-- it cannot
 pub row_passed : (g : JoinGraph) (ys : List ℕ) (x j y : ℕ) → j < length ys → y ≡ get_or ys j y → false ≡ is_joinable g x y → pairs_with g (drop j ys) x ≡ pairs_with g (drop (j + 1) ys) x
 unfolding pairs_with
 row_passed g ys x j y l ey t =
@@ -68,9 +68,6 @@ unfolding pairs_with
 row_over g ys x j l = ap (λ zs. map (pair_by_least x) (filter (is_joinable g x) zs)) (drop_all j ys l)
 
 -- ---- rows
-
-drop_split : (xs : List ℕ) (i x : ℕ) → i < length xs → x ≡ get_or xs i x → drop i xs ≡ x ∷ drop (i + 1) xs
-drop_split xs i x l e = split xs i x l e
 
 rows_none : (g : JoinGraph) (ys : List ℕ) (same : Bool) → rows g ys same [] ≡ []
 rows_none g ys true = refl

@@ -3,7 +3,7 @@ ghost use Rattle.dpe_base.specs.declared.pair.Pair.{Pair};
 ghost use Rattle.join_graph.specs.Graphs.{Connected};
 ghost use Rattle.pair_stream.specs.Orders.{Ordered, Complete};
 ghost use Rattle.pair_stream.specs.Parts.{parts_of};
-ghost use Rattle.pair_stream.specs.Streams.{Takes, is_over};
+ghost use Rattle.pair_stream.specs.Streams.{Takes};
 ghost use Rattle.enum_dpsize.specs.Dpsize.{pairs_with, rows_from, seq_dpsize};
 
 use crate::pairs::{is_joinable, pair_by_least};
@@ -30,7 +30,7 @@ pub struct DpSize<'a> {
 }
 
 impl<'a> Model for DpSize<'a> {
-    ghost use Rattle.std.specs.Prelude.{List, ◌≡◌};
+    ghost use Rattle.std.specs.Prelude.{List};
     ghost use Rattle.dpe_base.specs.declared.pair.Pair.{Pair};
     ghost use Rattle.enum_dpsize.specs.Dpsize.{dpsize_left, IsDpsizeState};
 

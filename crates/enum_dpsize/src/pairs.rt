@@ -6,7 +6,7 @@ ghost use Rattle.enum_dpsize.specs.Dpsize.{is_joinable, pair_by_least};
 use dpe_base::{Pair, RelSet};
 use join_graph::Graph;
 
-// Whether `y` is disjoint from `x` and joined to it, where `around` are the neighbours of `x`.
+/// Whether `y` is disjoint from `x` and joined to it, where `around` are the neighbours of `x`.
 pub fn is_joinable(graph: &Graph, x: RelSet, around: RelSet, y: RelSet) -> bool
     requires { IsNeighbours graph.now x around }
     ensures { result ≡ is_joinable graph.now x y }
@@ -18,7 +18,7 @@ pub fn is_joinable(graph: &Graph, x: RelSet, around: RelSet, y: RelSet) -> bool
     around.meets(y)
 }
 
-// The least relation of a connected set.
+/// The least relation of a connected set.
 pub fn least(graph: &Graph, x: RelSet) -> u8
     requires { Connected graph.now x }
     ensures { result ≡ least x }
@@ -30,7 +30,7 @@ pub fn least(graph: &Graph, x: RelSet) -> u8
     }
 }
 
-// The pair of two connected sets.
+/// The pair of two connected sets.
 #[tactic(auto, unfolding(crate::specs::Dpsize::pair_by_least))]
 pub fn pair_by_least(graph: &Graph, x: RelSet, y: RelSet) -> Pair
     requires x { Connected graph.now x }

@@ -1,4 +1,4 @@
-ghost use Rattle.std.specs.Prelude.{◌≡◌, ◌≤◌, ◌-◌, ℕ, List, length, IfOk, slice_index_or};
+ghost use Rattle.std.specs.Prelude.{◌≡◌, ◌≤◌, ◌-◌, length, IfOk, slice_index_or};
 ghost use Rattle.enum_dpsize.specs.Dpsva.{AreParts};
 
 use dpe_base::RelSet;
@@ -46,7 +46,7 @@ impl SkipParts {
         Ok(SkipParts { lists, skips })
     }
 
-    // The connected sets of that many relations as a plain list.
+    /// The connected sets of that many relations as a plain list.
     pub(crate) fn list(&self, size: u32) -> &[RelSet]
         requires { (1 ≤ size) × (size ≤ length self.now) }
         ensures { result.now ≡ slice_index_or self.now (size - 1) result.now }
@@ -54,7 +54,7 @@ impl SkipParts {
         self.lists[size as usize - 1].as_slice()
     }
 
-    // The connected sets of that many relations with their skip vectors.
+    /// The connected sets of that many relations with their skip vectors.
     pub(crate) fn skips(&self, size: u32) -> &SkipPart
         requires { (1 ≤ size) × (size ≤ length self.now) }
         ensures { result.now ≡ slice_index_or self.now (size - 1) result.now }

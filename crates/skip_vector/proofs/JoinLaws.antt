@@ -4,7 +4,7 @@ use Rattle.std.proofs.lemmas.Bool.{cases_eq, cases_lt, eq-eqb}
 use Rattle.dpe_base.specs.Sets.{inter, members}
 use Rattle.skip_vector.specs.Skips.{first_relations, blocking_prefix, IsPart, IsFirstFree, same_list, has_blocking_prefix, is_probed, probes, probes_from}
 use Rattle.skip_vector.proofs.PrefixLaws.{HasIn, hasin_from, hasin_meets}
-use Rattle.skip_vector.proofs.ProbeLaws.{take-between, blocking_same, blocking_has, blocking_first, blocking_new, probes_few}
+use Rattle.skip_vector.proofs.ProbeLaws.{take-between, blocking_same, blocking_has, blocking_first, blocking_new}
 
 -- the places before and the places after
 has_blocking_cut : (part : List ℕ) (x : ℕ) (p : List ℕ) (from m k : ℕ) → has_blocking_prefix part x p from (m + k) ≡ (has_blocking_prefix part x p from m || has_blocking_prefix part x p (from + m) k)
@@ -80,18 +80,3 @@ probes_rest part x from place entry ok small f =
     ∙ probes_join part from x n k ok small free (omega (arith, f.within, f.from_on))
     ∙ ap (λ j. probes part from x j + probes part (from + suc n) x k) (sym b)
     ∙ ap (λ j. probes part from x (place + 1 - from) + probes part j x k) c
-
--- the sum so far and what is left, after a found entry
-pub sum_more : (part : List ℕ) (x from place entry sum n : ℕ) → IsPart part → ((i : ℕ) → i < length part → slice_index part i < 2 ^ 32) → IsFirstFree part x from place entry → n ≡ probes part from x (place + 1 - from) → sum + probes_from part from x ≡ probes_from part 0 x → sum + n + probes_from part (place + 1) x ≡ probes_from part 0 x
-sum_more part x from place entry sum n ok small f e h =
-    omega (arith, e, h, probes_rest part x from place entry ok small f)
-
-pub sum_few : (part : List ℕ) (x a b : ℕ) → a + b ≡ probes_from part 0 x → a ≤ length part
-sum_few part x a b h = omega (arith, h, probes_few part 0 x (length part - 0))
-
-pub none_left : (part : List ℕ) (x from sum : ℕ) → length part ≤ from → sum + probes_from part from x ≡ probes_from part 0 x → sum ≡ probes_from part 0 x
-unfolding probes
-none_left part x from sum l h =
-    let z : length part - from ≡ 0 = omega arith in
-    let e : probes part from x (length part - from) ≡ 0 = ap (probes part from x) z in
-    omega (arith, h, e)

@@ -349,24 +349,6 @@ scan_end part from x place count s ge =
 
 -- ---- the columns
 
-pub after_last : (part : List ℕ) (i p a : ℕ) → i < length part → length part ≤ suc i → a ≡ length part → IsAfter part i p a
-after_last part i p a l m e = record { above = omega arith; within = omega arith; same = λ j b c. absurd (omega arith); other = λ b. absurd (omega arith) }
-
-pub after_other : (part : List ℕ) (i p : ℕ) → suc i < length part → first_relations p (slice_index part (i + 1)) ≢ first_relations p (slice_index part i) → IsAfter part i p (i + 1)
-after_other part i p l ne = record { above = omega arith; within = omega arith; same = λ j b c. absurd (omega arith); other = λ b. ne }
-
-pub after_same : (part : List ℕ) (i p a : ℕ) → first_relations p (slice_index part (i + 1)) ≡ first_relations p (slice_index part i) → IsAfter part (i + 1) p a → IsAfter part i p a
-after_same part i p a e h =
-    record {
-      above = omega (arith, h.above);
-      within = h.within;
-      same = λ j b c. elim (cases_eq j (i + 1)) [
-        | inl q ↦ ap (λ k. first_relations p (slice_index part k)) q ∙ e
-        | inr ne ↦ h.same j (omega arith) c ∙ e
-      ];
-      other = λ b f. h.other b (f ∙ sym e);
-    }
-
 pub apart_in_part : (part : List ℕ) (i : ℕ) → IsPart part → i + 1 < length part → slice_index part i ≢ slice_index part (i + 1)
 apart_in_part part i ok l e =
     let less : list_order (slice_index part i) (slice_index part (i + 1)) ≡ Less = ok.ascends i (i + 1) (omega arith) l in

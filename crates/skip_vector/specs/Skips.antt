@@ -83,16 +83,6 @@ pub record IsFirstFree (part : List ℕ) (x from place entry : ℕ) : Type 0 whe
 abbrev pub probes_from : List ℕ → ℕ → ℕ → ℕ
 probes_from part from x = probes part from x (length part - from)
 
--- the sum over the relations' sets of one list, each against the whole part
-unfoldable pub probes_of : List ℕ → List ℕ → ℕ
-probes_of [] part = 0
-probes_of (x ∷ xs) part = probes_from part 0 x + probes_of xs part
-
--- the sum over the first n entries of a part, each against the entries after it
-unfoldable pub probes_within : List ℕ → ℕ → ℕ
-probes_within part zero = 0
-probes_within part (suc n) = probes_within part n + probes_from part (suc n) (slice_index part n)
-
 -- the entry n places after `from` is disjoint from x, or none before it has its blocking prefix
 abbrev pub IsProbed : List ℕ → ℕ → ℕ → ℕ → Type 0
 IsProbed part from x n =

@@ -1,4 +1,4 @@
-ghost use Rattle.std.specs.Prelude.{◌≡◌, ◌≤◌, ◌<◌, ◌+◌, ◌-◌, ℕ, length, slice_index, IfOk};
+ghost use Rattle.std.specs.Prelude.{◌≡◌, ◌≤◌, ◌<◌, ◌+◌, length, slice_index, IfOk};
 ghost use Rattle.dpe_base.specs.Sets.{size};
 ghost use Rattle.skip_vector.specs.Skips.{IsPart, IsAfter, IsColumn};
 

@@ -25,6 +25,7 @@ fn pick_from(rng: &mut Xoshiro256PlusPlus, low: u64, k: u64) -> u64
     low + pick(rng, k)
 }
 
+/// A table of 1 to 1,000,000 rows.
 #[tactic(auto, unfolding(crate::specs::Draws::table))]
 fn table(rng: &mut Xoshiro256PlusPlus) -> Table
     ensures { (result, rng.new) ≡ table rng.old }
@@ -34,6 +35,7 @@ fn table(rng: &mut Xoshiro256PlusPlus) -> Table
     Table { rows, distinct }
 }
 
+/// A relation over one of the tables, with a filter.
 #[tactic(auto, unfolding(crate::specs::Draws::relation))]
 fn relation(rng: &mut Xoshiro256PlusPlus) -> Relation
     ensures { (result, rng.new) ≡ relation rng.old }
@@ -75,6 +77,9 @@ fn extra_join(rng: &mut Xoshiro256PlusPlus, n: u64) -> Option<Join>
     })
 }
 
+/// The tables of a sample.
+///
+/// Fails where there is no memory, as do the other lists.
 pub fn tables(alloc: Global, rng: &mut Xoshiro256PlusPlus) -> Result<Vec<Table>, AllocError>
     ensures { IfOk result (λ v. (v.items, rng.new) ≡ draw_each (λ t. table) 0 8 rng.old) }
 {
@@ -85,6 +90,7 @@ pub fn tables(alloc: Global, rng: &mut Xoshiro256PlusPlus) -> Result<Vec<Table>,
     Ok(tables)
 }
 
+/// The relations of a query of `n` relations.
 fn relations(
     alloc: Global,
     rng: &mut Xoshiro256PlusPlus,
@@ -99,6 +105,7 @@ fn relations(
     Ok(relations)
 }
 
+/// The joins that connect `n` relations, one for each after the first.
 fn tree_joins(alloc: Global, rng: &mut Xoshiro256PlusPlus, n: u64) -> Result<Vec<Join>, AllocError>
     requires { 1 ≤ n }
     ensures { IfOk result (λ v. (v.items, rng.new) ≡ draw_each tree_join 1 (n - 1) rng.old) }
@@ -129,6 +136,7 @@ fn joins_tried(
     Ok(joins)
 }
 
+/// Up to three further joins of `n` relations.
 #[tactic(auto, unfolding(crate::specs::Draws::extra_joins))]
 fn extra_joins(alloc: Global, rng: &mut Xoshiro256PlusPlus, n: u64) -> Result<Vec<Join>, AllocError>
     requires { 1 ≤ n }
@@ -138,6 +146,7 @@ fn extra_joins(alloc: Global, rng: &mut Xoshiro256PlusPlus, n: u64) -> Result<Ve
     joins_tried(alloc, rng, n, count)
 }
 
+/// A connected query of 2 to 12 relations.
 #[tactic(auto, unfolding(crate::specs::Draws::query))]
 fn query(alloc: Global, rng: &mut Xoshiro256PlusPlus) -> Result<Query, AllocError>
     ensures { IfOk result (λ q. (q, rng.new) ≡ query rng.old) }
@@ -150,6 +159,7 @@ fn query(alloc: Global, rng: &mut Xoshiro256PlusPlus) -> Result<Query, AllocErro
     Ok(Query { relations, joins })
 }
 
+/// The queries of a sample.
 pub fn queries(alloc: Global, rng: &mut Xoshiro256PlusPlus) -> Result<Vec<Query>, AllocError>
     ensures { IfOk result (λ v. (v.items, rng.new) ≡ draw_each (λ j. query) 0 8 rng.old) }
 {

@@ -1,7 +1,6 @@
-ghost use Rattle.std.specs.Prelude.{◌≡◌, ℕ, IfOk, codes, decimal, string_bytes, ◌++◌};
+ghost use Rattle.std.specs.Prelude.{◌≡◌, ℕ, IfOk};
 ghost use Rattle.serde_json.specs.Data.{Data, array};
 ghost use Rattle.serde_json.specs.View.{view};
-ghost use Rattle.workload_gen.specs.Sample.{SampleQuery};
 ghost use Rattle.workload_gen.specs.Values.{join_value, query_value, relation_value, table_value, values};
 
 use crate::sample::{Join, Query, Relation, Table};
@@ -13,6 +12,7 @@ pub trait Part {
     /// Its value, at its place in the list.
     ghost value_of: { ℕ → Self → Data };
 
+    /// The value of the part at place `at`. Fails where there is no memory.
     fn value(&self, alloc: Global, at: u64) -> Result<Value, AllocError>
         ensures { IfOk result (λ v. view v ≡ value_of at self.now) };
 }
@@ -74,7 +74,7 @@ impl Part for Query {
     }
 }
 
-/// The values of the parts, as one array.
+/// The values of the parts, as one array. Fails where there is no memory.
 pub fn values<T: Part>(alloc: Global, parts: &[T]) -> Result<Value, AllocError>
     ensures { IfOk result (λ v. view v ≡ array (values T.value_of 0 parts.now)) }
 {

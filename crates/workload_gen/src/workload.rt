@@ -12,6 +12,7 @@ use rand_xoshiro::Xoshiro256PlusPlus;
 use serde_json::{Value, json};
 use std::alloc::{AllocError, Global};
 
+// The workload of a number as a value.
 #[tactic(auto, unfolding(crate::specs::Draws::sample_of, crate::specs::Draws::sample, crate::specs::Values::workload_value))]
 fn workload(alloc: Global, number: u64) -> Result<Value, AllocError>
     ensures { IfOk result (λ v. view v ≡ workload_value (sample_of number)) }
@@ -25,6 +26,8 @@ fn workload(alloc: Global, number: u64) -> Result<Value, AllocError>
 }
 
 /// The bytes of the sample workload of a number: compact JSON, without a newline.
+///
+/// Fails where there is no memory.
 #[tactic(auto, using(crate::proofs::Plain::workload_is_plain), unfolding(crate::specs::Values::workload_of))]
 pub fn generate(alloc: Global, number: u64) -> Result<Vec<u8>, AllocError>
     ensures text { IfOk result (λ bytes. bytes.items ≡ workload_of number) }
