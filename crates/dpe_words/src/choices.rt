@@ -6,7 +6,7 @@ use dpe_base::Kind;
 use plan_report::Format;
 use std::alloc::{AllocError, AllocFailed, Global};
 
-/// What the program is asked to do.
+/// What the program is asked to do. No word names a mode after `Sample` yet.
 #[derive(Clone, Copy, Debug, PartialEq, Eq)]
 pub enum Mode {
     Plan,

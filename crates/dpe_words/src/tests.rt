@@ -166,3 +166,9 @@ fn the_usage_line(rt: HostRuntime) {
         "usage: dpe [--mode M] [--enumerator E] [--buffer N] [--workers N] [--model M] [--format F] [--stats S] [--number N]\n";
     assert_eq!(rt; usage_line(), want);
 }
+
+#[test]
+fn faults_and_their_numbers(rt: HostRuntime) {
+    assert_eq!(rt; WordFault::Usage as u8, 1);
+    assert_eq!(rt; WordFault::NoMemory as u8, 2);
+}

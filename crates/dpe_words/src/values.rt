@@ -1,4 +1,4 @@
-ghost use Rattle.std.specs.Prelude.{◌≡◌, ◌≤◌, ◌<◌, ◌^◌, ◌-◌, false, option_map};
+ghost use Rattle.std.specs.Prelude.{◌≡◌, false, option_map};
 ghost use Rattle.std.specs.Char.{is_ascii_digit};
 ghost use Rattle.std.specs.List.{list_all};
 ghost use Rattle.dpe_words.specs.Values.{enumerators, formats, from_to, meaning_in, models, modes, number_in, switches, value_or, written_number};
@@ -65,7 +65,7 @@ pub fn stats_of(text: Option<&str>) -> Option<bool>
     }
 }
 
-/// The number that the text writes, from `low` to `high`, or the default where there is none.
+/// The number that the text writes, from `low` to `high`, or the default where there is no text.
 #[tactic(auto, using(crate::proofs::Numbers::narrowed))]
 pub fn number_in(text: Option<&str>, low: u64, high: u64, default: u64) -> Option<u64>
     ensures { result ≡ value_or default (number_in low high) (option_map (λ t. t.now) text.entry) }
@@ -79,7 +79,7 @@ pub fn number_in(text: Option<&str>, low: u64, high: u64, default: u64) -> Optio
     }
 }
 
-/// The same, for numbers that a `u32` holds.
+/// The number that the text writes, as `number_in` reads it, where a `u32` holds the limits.
 pub fn small_number_in(text: Option<&str>, low: u32, high: u32, default: u32) -> Option<u32>
     ensures { result ≡ value_or default (number_in low high) (option_map (λ t. t.now) text.entry) }
 {

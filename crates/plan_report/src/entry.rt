@@ -3,6 +3,7 @@ use dpe_base::Kind;
 /// How the pairs of a query were enumerated and worked.
 #[derive(Clone, Copy, Debug, PartialEq, Eq)]
 pub struct Stats {
+    /// The enumerator that gave the pairs.
     pub kind: Kind,
     /// How many pairs a buffer takes.
     pub buffer: u32,

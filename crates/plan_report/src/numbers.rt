@@ -90,7 +90,7 @@ pub fn measure<M: CostModel>(
     }
 }
 
-/// The numbers of the next node.
+/// Takes the numbers of the next node from the end.
 pub fn next_numbers(numbers: &mut Vec<Numbers>) -> Numbers
     requires { numbers.old.items ≢ [] }
     ensures { numbers.old.items ≡ numbers.new.items ++ result ∷ [] }

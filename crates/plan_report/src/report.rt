@@ -76,7 +76,7 @@ impl Report {
     }
 
     /// Appends the entry of a query with this plan and this number of pairs, and with the statistics
-    /// where they are given.
+    /// where they are given. Where memory runs out, the report stays as it was.
     pub fn planned<M: CostModel>(
         &mut self,
         name: &Name,
@@ -121,7 +121,7 @@ impl Report {
         }
     }
 
-    /// Appends the entry of a refused query.
+    /// Appends the entry of a refused query. Where memory runs out, the report stays as it was.
     pub fn refused(&mut self, name: &Name, why: &QueryRefusal) -> Result<(), AllocError>
         ensures ok { OnOk result (Appends self.old self.new (refused name.now why.now)) }
         ensures err { OnErr result (Keeps self.old self.new) }
@@ -139,7 +139,7 @@ impl Report {
         }
     }
 
-    /// The text of all entries.
+    /// The text of all entries, of a report that is text.
     pub fn text(self) -> Vec<u8>
         requires { format_of self ≡ Format.Text }
         ensures { result.items ≡ text_in self }
@@ -148,7 +148,7 @@ impl Report {
         text.into_bytes()
     }
 
-    /// The line of all entries as JSON.
+    /// The line of all entries, of a report that is JSON.
     pub fn json(self) -> Result<Vec<u8>, AllocError>
         requires { format_of self ≡ Format.Json }
         ensures { IfOk result (λ v. v.items ≡ report_line (entries_in self)) }
