@@ -191,10 +191,11 @@ impl<M: CostModel> Engine<M> {
     /// another, and all that builds its sides was worked in an earlier buffer or a smaller group. Each group that has a
     /// pair is one round of all workers.
     ///
-    /// While a full buffer is worked the next one is filled: in a thread of its own where there is more than one worker,
-    /// and the buffer is the run's first or large enough to pay for a thread; else before it in the calling thread. After
-    /// a fill that took less than a buffer holds none follows. The workers of a round go in threads of their own where the
-    /// group is large enough to pay for them, and else one after the other in the calling thread.
+    /// While a full buffer is worked the next one is filled in a thread of its own; but one worker would only wait for the
+    /// thread to start, so it is filled before that work in the calling thread. After a fill that took less than a buffer
+    /// holds none follows. The workers of a round go in threads of their own where the group is large enough to pay for
+    /// them, or is the first of a run that fills a buffer which isn't narrow, and else one after the other in the calling
+    /// thread.
     ///
     /// The gate is told of each buffer before it is filled, and of each draw. It takes no memory.
     pub fn run<P: PairStream, G: Gate, R: Threads + Sync>(

@@ -11,11 +11,11 @@ use memo_table::MemoSeat;
 use reorder_buffer::{Buffer, SIZES};
 use std::thread::Threads;
 
-/// Runs with a smaller buffer start no thread before a wide group.
-pub(crate) const NARROW: usize = 32;
+// A buffer of as many pairs is large enough for the first group of a run to be worked in threads whatever its size: they
+// cost little of a run that fills such a buffer.
+const NARROW: usize = 32;
 
-// The threads of a group. The first group of a run that fills a buffer is worked in threads whatever its size: they
-// cost little of such a run.
+// The threads of a group of the full buffer.
 fn threads_of(workers: u32, turns: u64, full: &Buffer) -> usize
     requires { 1 ≤ workers }
     ensures { 1 ≤ result }

@@ -3,9 +3,8 @@ ghost use Rattle.std.specs.Prelude.{◌≡◌, ◌+◌, ◌<◌, length, vec_cap
 ghost use Rattle.dpe_engine.specs.Between.{MayWorkBuffer, HasWorkedBuffer, IsFilled, IsRunning};
 
 use crate::gate::Gate;
-use crate::groups::{NARROW, work_groups};
+use crate::groups::work_groups;
 use crate::shared::Shared;
-use crate::turn::WIDE;
 use cost_model::CostModel;
 use memo_table::MemoSeat;
 use pair_stream::PairStream;
@@ -143,13 +142,7 @@ fn fill_beside_work<P: PairStream, M: CostModel, G: Gate, R: Threads + Sync>(
     }
 }
 
-// Whether the next buffer is filled in a thread of its own. To start one takes as long as to fill some 5,000 pairs, so
-// it pays for large buffers. Beside a run's first buffer there is one unless it is narrow.
-fn fills_beside(workers: u32, number: u64, pairs: usize) -> bool {
-    workers > 1 && (pairs >= WIDE || (number == 1 && pairs >= NARROW))
-}
-
-// Fills the next buffer and works the full one, side by side or in turn.
+// Fills the next buffer and works the full one: side by side, but one worker would only wait for the thread to start.
 fn fill_and_work<P: PairStream, M: CostModel, G: Gate, R: Threads + Sync>(
     rt: &R,
     shared: &Shared<M>,
@@ -163,7 +156,7 @@ fn fill_and_work<P: PairStream, M: CostModel, G: Gate, R: Threads + Sync>(
     ensures worked { HasWorkedBuffer M.KIND shared.now.memo shared.now.workers progress.pairs progress.turns result.turns progress.full result.full result.crew.items (vec_capacity result.crew) result.seat }
     ensures counts { (result.pairs ≡ progress.pairs) × (result.buffers ≡ progress.buffers) }
 {
-    if fills_beside(shared.workers, number, progress.full.len()) {
+    if shared.workers > 1 {
         fill_beside_work(rt, shared, gate, number, progress)
     } else {
         fill_then_work(rt, shared, gate, number, progress)

@@ -11,9 +11,8 @@ use dpe_base::Pair;
 use memo_table::{Memo, MemoSeat};
 use std::thread::Threads;
 
-/// A group with as many pairs is worked in threads, and so large a buffer is filled in one: to start them takes as long
-/// as to work some 14,000 pairs.
-pub(crate) const WIDE: usize = 16_384;
+// A group with as many pairs is worked in threads: to start them takes as long as to work some 14,000 pairs.
+const WIDE: usize = 16_384;
 
 /// The number of threads that a group of so many pairs pays for.
 pub(crate) fn threads_for(workers: u32, pairs: usize) -> usize

@@ -15,6 +15,7 @@ struct Meeting {
 }
 
 impl Meeting {
+    // Neither side has come.
     fn new() -> Meeting {
         Meeting {
             one: AtomicBool::new(false),
@@ -36,10 +37,12 @@ impl Meeting {
         self.late.store(true, Ordering::SeqCst);
     }
 
+    // The one side comes.
     fn one_comes(&self) {
         self.come(&self.one, &self.other);
     }
 
+    // The other side comes.
     fn other_comes(&self) {
         self.come(&self.other, &self.one);
     }
@@ -60,6 +63,7 @@ pub struct DrawsMeet {
 }
 
 impl DrawsMeet {
+    /// `first` is the least ticket that counts.
     pub fn from_ticket(first: u64) -> DrawsMeet {
         DrawsMeet {
             first,
@@ -67,6 +71,7 @@ impl DrawsMeet {
         }
     }
 
+    /// Whether the two workers drew at the same time.
     pub fn took_place(&self) -> bool {
         self.meeting.took_place()
     }
@@ -86,31 +91,39 @@ impl Gate for DrawsMeet {
     fn filling(&self, _buffer: u64) {}
 }
 
-/// The first draw of any worker and the filling of the second buffer wait for each other.
+/// The first draw of any worker, where earlier tickets don't count, and the filling of one buffer wait for each other.
 #[derive(Drop)]
 pub struct DrawMeetsFilling {
+    first: u64,
+    buffer: u64,
     meeting: Meeting,
 }
 
 impl DrawMeetsFilling {
-    pub fn new() -> DrawMeetsFilling {
+    /// `first` is the first ticket of the buffer before `buffer`.
+    pub fn from_ticket(first: u64, buffer: u64) -> DrawMeetsFilling {
         DrawMeetsFilling {
+            first,
+            buffer,
             meeting: Meeting::new(),
         }
     }
 
+    /// Whether the buffer was filled beside the draw.
     pub fn took_place(&self) -> bool {
         self.meeting.took_place()
     }
 }
 
 impl Gate for DrawMeetsFilling {
-    fn before(&self, _worker: u32, _ticket: u64) {
-        self.meeting.one_comes();
+    fn before(&self, _worker: u32, ticket: u64) {
+        if ticket >= self.first {
+            self.meeting.one_comes();
+        }
     }
 
     fn filling(&self, buffer: u64) {
-        if buffer == 1 {
+        if buffer == self.buffer {
             self.meeting.other_comes();
         }
     }
@@ -148,6 +161,7 @@ impl Tally {
         self.strays.load(Ordering::SeqCst) == 0
     }
 
+    /// How often a buffer was filled.
     pub fn fillings(&self) -> u64 {
         self.fillings.load(Ordering::SeqCst)
     }

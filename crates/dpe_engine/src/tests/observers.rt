@@ -25,9 +25,20 @@ fn two_workers_draw_at_the_same_time(rt: HostRuntime) -> Result<(), Fail> {
 #[test]
 fn a_buffer_is_filled_beside_the_work(rt: HostRuntime) -> Result<(), Fail> {
     let query = query_of_ones(rt.alloc(), Shape::Clique, 10)?;
-    let gate = DrawMeetsFilling::new();
+    let gate = DrawMeetsFilling::from_ticket(0, 1);
     let solved = solve_by_dpccp(&rt, rt.alloc(), &query, 1_000, 2, &gate)?;
     assert_eq!(rt; (solved.pairs, solved.buffers), (28_501, 29));
+    assert!(rt; gate.took_place());
+    Ok(())
+}
+
+// Each of ten buffers has one pair, so its one round draws three tickets.
+#[test]
+fn a_later_small_buffer_is_filled_beside_the_work(rt: HostRuntime) -> Result<(), Fail> {
+    let query = query_of_ones(rt.alloc(), Shape::Chain, 4)?;
+    let gate = DrawMeetsFilling::from_ticket(6, 3);
+    let solved = solve_by_dpccp(&rt, rt.alloc(), &query, 1, 2, &gate)?;
+    assert_eq!(rt; (solved.pairs, solved.buffers), (10, 10));
     assert!(rt; gate.took_place());
     Ok(())
 }

@@ -80,13 +80,13 @@ fn same_words_of_a_cycle_of_sixteen(rt: HostRuntime) -> Result<(), Fail> {
 #[test]
 fn same_words_of_a_star_of_sixteen(rt: HostRuntime) -> Result<(), Fail> {
     let query = query_of_ones(rt.alloc(), Shape::Star, 16)?;
-    assert!(rt; is_same_for_all(&rt, rt.alloc(), &query, 100, 245_760)?);
+    assert!(rt; is_same_for_all(&rt, rt.alloc(), &query, 1_000, 245_760)?);
     Ok(())
 }
 
 #[test]
-fn same_words_of_a_clique_of_eight(rt: HostRuntime) -> Result<(), Fail> {
-    let query = query_of_ones(rt.alloc(), Shape::Clique, 8)?;
-    assert!(rt; is_same_for_all(&rt, rt.alloc(), &query, 1, 3_025)?);
+fn same_words_of_a_clique_of_ten(rt: HostRuntime) -> Result<(), Fail> {
+    let query = query_of_ones(rt.alloc(), Shape::Clique, 10)?;
+    assert!(rt; is_same_for_all(&rt, rt.alloc(), &query, 100, 28_501)?);
     Ok(())
 }
