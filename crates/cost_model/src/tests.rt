@@ -31,6 +31,11 @@ fn words_of_leaves_and_joins(rt: HostRuntime) {
         Word::of(0, 3, RelSet::of_bits(8)).map(Word::bits),
         Some(196_616)
     );
+    // the greatest cost that has a word
+    assert_eq!(rt;
+        Word::of((1 << 46) - 1, 2, RelSet::of_bits(1)).map(Word::bits),
+        Some(18_446_744_073_709_420_545)
+    );
     assert_eq!(rt; Word::of(1 << 46, 0, RelSet::of_bits(8)), None);
     let word = Word::of_bits(340_787_201);
     assert_eq!(rt; word.cost(), 1300);

@@ -1,7 +1,23 @@
-use crate::{INPUT_CAP, Name, Pred, Query, QueryFault, Rel, RelSet};
+use crate::{
+    COST_LIMIT, DRAWS, EMPTY, INPUT_CAP, N_MAX, Name, PREDS_MAX, Pred, Query, QueryFault, ROW_CAP,
+    Rel, RelSet, SPAN, WEIGHT,
+};
 use std::alloc::{AllocError, Global};
 use std::cmp::Ordering;
 use std::test::Fail;
+
+#[test]
+fn the_limits(rt: HostRuntime) {
+    assert_eq!(rt; N_MAX, 16);
+    assert_eq!(rt; PREDS_MAX, 1024);
+    assert_eq!(rt; INPUT_CAP, 1_099_511_627_776);
+    assert_eq!(rt; ROW_CAP, 1_099_511_627_776);
+    assert_eq!(rt; COST_LIMIT, 70_368_744_177_664);
+    assert_eq!(rt; SPAN, 65_536);
+    assert_eq!(rt; EMPTY, 18_446_744_073_709_551_615);
+    assert_eq!(rt; WEIGHT, 65);
+    assert_eq!(rt; DRAWS, 4_611_686_018_427_387_904);
+}
 
 #[test]
 fn subsets_ascend_as_numbers(rt: HostRuntime) -> Result<(), Fail> {
