@@ -65,7 +65,7 @@ fn adjacency(preds: &[Pred]) -> [RelSet; N_MAX]
 }
 
 impl Graph {
-    /// Two relations are neighbours where a predicate of the query has them as its ends.
+    /// The join graph of the query: two relations are neighbours where a predicate has them as its ends.
     pub fn of(query: &Query) -> Graph
         ensures { result ≡ graph_of query.now }
     {

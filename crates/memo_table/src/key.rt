@@ -44,7 +44,8 @@ impl<N: Named> Play<(), TreeSpace> for Names<N> {
     ghost then = { names N.named };
 }
 
-// The list exists in proofs alone, so a seat that a step has told of it stands for it. Its table is let go at once.
+// The key that names the query and the list of pairs that the stream has left. The list exists in proofs alone, so a
+// seat that a step has told of it stands for it. Its table is let go at once.
 pub(crate) fn key_of<P: PairStream>(
     alloc: Global,
     query: &Query,
@@ -55,6 +56,7 @@ pub(crate) fn key_of<P: PairStream>(
     key_by::<P, Brand>(alloc, query, stream)
 }
 
+// `N` says what the key is to name.
 fn key_by<P: PairStream, N: Named>(
     alloc: Global,
     query: &Query,
