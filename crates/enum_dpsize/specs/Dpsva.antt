@@ -13,7 +13,7 @@ use Rattle.enum_dpsize.specs.Dpsize.{start_at, IsDpsizeState}
 abbrev pub AreParts : List (List ℕ) → Type 0
 AreParts parts = (g : JoinGraph) × IsGraph g × (parts ≡ parts_of g)
 
--- the entries that the scans for the set at place i look at: it goes over all of ys, or, where both lists are one,
+-- how many entries the scans for the set at place i look at: they go over all of ys, or, where both lists are one,
 -- over the entries after the set
 unfoldable pub row_probes : List ℕ → Bool → List ℕ → ℕ → ℕ
 row_probes ys same xs i = probes_from ys (start_at same i) (slice_index xs i)
@@ -31,7 +31,7 @@ unfoldable pub dpsva_probes : JoinGraph → ℕ
 dpsva_probes g =
     sum_by (λ s. sum_by (λ k. sized_probes g k (s - k)) (range_with_len 1 (s / 2))) (range_with_len 2 (g.n - 1))
 
--- the entries that are still to be looked at from place j of row i on
+-- how many entries are still to be looked at from place j of row i on
 unfoldable pub rows_probes_from : List ℕ → Bool → List ℕ → ℕ → ℕ → ℕ
 rows_probes_from ys same xs i j =
     if nat_lt i (length xs) then probes_from ys j (slice_index xs i) + rows_probes ys same xs (suc i) else 0

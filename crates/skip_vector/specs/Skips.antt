@@ -34,6 +34,7 @@ pub record IsAfter (part : List ℕ) (i p a : ℕ) : Type 0 where
   pub same : (j : ℕ) → i < j → j < a → first_relations p (slice_index part j) ≡ first_relations p (slice_index part i)
   pub other : a < length part → first_relations p (slice_index part a) ≢ first_relations p (slice_index part i)
 
+-- whether two lists are the same
 unfoldable pub same_list : List ℕ → List ℕ → Bool
 same_list [] [] = true
 same_list [] (b ∷ bs) = false
