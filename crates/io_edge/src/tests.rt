@@ -1,4 +1,5 @@
 use crate::{MemSink, MemSource, ReadEnd, StdSink, StdSource, WriteFault, read_all, write_all};
+use std::io::{ErrorKind, Read, Write};
 use std::test::Fail;
 
 const TEXT: &[u8] = b"abcdef";
@@ -81,5 +82,46 @@ fn a_writer_of_std_gets_the_bytes_until_it_is_full(rt: HostRuntime) -> Result<()
     let mut sink = StdSink::over(room.as_mut_slice());
     assert_eq!(rt; write_all(&mut sink, TEXT), Err(WriteFault));
     assert_eq!(rt; &room, b"abcd");
+    Ok(())
+}
+
+// A stream of which a read and a flush fail.
+#[derive(Drop)]
+struct Broken;
+
+impl Read for Broken {
+    fn read(&mut self, _buf: &mut [u8]) -> std::io::Result<usize> {
+        Err(ErrorKind::Other.into())
+    }
+}
+
+impl Write for Broken {
+    fn write(&mut self, buf: &[u8]) -> std::io::Result<usize> {
+        Ok(buf.len())
+    }
+
+    fn flush(&mut self) -> std::io::Result<()> {
+        Err(ErrorKind::Other.into())
+    }
+}
+
+#[test]
+fn an_error_of_std_is_a_fault(rt: HostRuntime) -> Result<(), Fail> {
+    let mut source = StdSource::over(Broken);
+    let end = read_all(rt.alloc(), &mut source, 6).err();
+    assert_eq!(rt; end, Some(ReadEnd::Fault));
+    let mut sink = StdSink::over(Broken);
+    assert_eq!(rt; write_all(&mut sink, TEXT), Err(WriteFault));
+    Ok(())
+}
+
+#[test]
+fn each_end_of_reading_has_its_number(rt: HostRuntime) -> Result<(), Fail> {
+    let numbers = [
+        ReadEnd::Fault as u8,
+        ReadEnd::TooLong as u8,
+        ReadEnd::NoMemory as u8,
+    ];
+    assert_eq!(rt; numbers, [1, 2, 3]);
     Ok(())
 }

@@ -1,5 +1,5 @@
 //! What must stand at a site.
-ghost use Rattle.std.specs.Prelude.{◌≡◌, ℕ, IfOk, Result, option_map, option_and_then};
+ghost use Rattle.std.specs.Prelude.{◌≡◌, ℕ, Result, option_map, option_and_then};
 ghost use Rattle.std.specs.List.{list_all};
 ghost use Rattle.serde_json.specs.Data.{Data};
 ghost use Rattle.serde_json.specs.Find.{as_array};
@@ -179,6 +179,7 @@ pub fn optional_ratio_of(member: Option<&Value>, place: Place) -> Result<Option<
 pub trait Element<'a>: Drop {
     ghost reads: { ℕ → ℕ → Data → Result Self FileFault };
 
+    /// The member at the place `at` of a list that stands in the table or query `outer`.
     fn read(alloc: Global, outer: u64, at: u64, value: &Value<'a>) -> Result<Self, FileFault>
     where
         Self: Sized,

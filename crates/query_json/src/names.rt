@@ -12,6 +12,7 @@ use std::alloc::{AllocError, AllocFailed, Global};
 pub trait HasName {
     ghost label: { Self → List ℕ };
 
+    /// Its name.
     fn name(&self) -> &str
         ensures { result.now ≡ label self.now };
 }

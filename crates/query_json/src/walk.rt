@@ -1,6 +1,5 @@
 //! Reading the whole file.
-ghost use Rattle.std.specs.Prelude.{◌≡◌, ℕ, IfOk, Result, option_map};
-ghost use Rattle.serde_json.specs.Data.{Data};
+ghost use Rattle.std.specs.Prelude.{◌≡◌, IfOk, Result, option_map};
 ghost use Rattle.query_json.specs.Answer.{Gives};
 ghost use Rattle.query_json.specs.Limits.{IsFileWithin};
 ghost use Rattle.query_json.specs.Tree.{seen};
