@@ -88,18 +88,6 @@ after_base q r half size old new base e sized filled same below here basis =
       here = λ k l. ap (λ h. get_or new (h + k) one) (sym e) ∙ here k (omega arith) ∙ ap (λ c. mul c base) (filled k l) ∙ basis (card q k);
     }
 
-pub after_predicate : (q : JoinQuery) (r i half size : ℕ) (old new : List ScaledNumber) (p : Pred) → half ≡ 2 ^ r → AfterPredicates q r i size old → i < length q.preds → p ≡ get_or q.preds i p → length new ≡ length old → ((k : ℕ) → k < half → get_or new k one ≡ get_or old k one) → ((k : ℕ) → half ≤ k → k < half + half → get_or new k one ≡ times_pred k r (get_or old k one) p) → AfterPredicates q r (i + 1) size new
-after_predicate q r i half size old new p e part l pis same below here =
-    record {
-      sized = same ∙ part.sized;
-      below = λ k lt. below k (omega arith) ∙ part.below k lt;
-      here = λ k lt.
-          here (2 ^ r + k) (omega arith) (omega arith)
-          ∙ ap (λ c. times_pred (2 ^ r + k) r c p) (part.here k lt)
-          ∙ ap (times_pred (2 ^ r + k) r (fold (times_pred (2 ^ r + k) r) (times_base (card q k) (slice_get q.rels r)) (take i q.preds))) pis
-          ∙ sym (fold_more (times_pred (2 ^ r + k) r) (times_base (card q k) (slice_get q.rels r)) q.preds i p l);
-    }
-
 pub after_last_predicate : (q : JoinQuery) (r i size : ℕ) (cards : List ScaledNumber) → IsQuery q → r < 32 → i ≡ length q.preds → AfterPredicates q r i size cards → (k : ℕ) → k < 2 ^ r + 2 ^ r → get_or cards k one ≡ card q k
 after_last_predicate q r i size cards ok few e part k l =
     elim (cases_lt k (2 ^ r)) [

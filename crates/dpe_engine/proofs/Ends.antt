@@ -55,10 +55,6 @@ words_are kind memo cards workers turns v shared b s w bound =
     let H : List Pair → Type 0 = λ x. IsLeastWord kind memo.query x s w in
     subst H b.seat.pairs (subst G b.seat.query least)
 
--- how many numbers were drawn
-pub drawn_is : (kind : ℕ) (memo : MemoTable) (workers turns n pairs : ℕ) (v : SeatView) → IsBetween kind memo workers memo.pairs turns v → EachOnceBelow n v.view.tickets → pairs ≡ length memo.pairs → n ≡ pairs + workers * turns
-drawn_is kind memo workers turns n pairs v b d e = let x = d.count in let y = b.tickets.count in omega arith
-
 -- what is shared, of a query and a list that builds its sides in order
 pub shared_of : (memo : MemoTable) (cards : RowTable) (workers : ℕ) (q : JoinQuery) (list : List Pair) → memo.query ≡ q → memo.pairs ≡ list → IsQuery q → ((p : Pair) → Contains list p → Pairs (graph_of q) p) → Ordered list → IsCardTable q cards
     → 1 ≤ workers → workers ≤ 64 → IsShared memo cards workers

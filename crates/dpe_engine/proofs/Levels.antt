@@ -16,7 +16,7 @@ use Rattle.memo_table.specs.declared.view.View.{View}
 use Rattle.memo_table.specs.Seats.{MemoTable, SeatView, IsSeatOf, BoundsAreMade, Settled}
 use Rattle.memo_table.specs.Views.{with_floor}
 use Rattle.reorder_buffer.specs.Groups.{union_size}
-use Rattle.dpe_engine.specs.Working.{IsPlanned}
+use Rattle.dpe_engine.specs.Working.{IsMemoOfQuery}
 use Rattle.dpe_engine.specs.Rounds.{MayTurn, HasTurned}
 use Rattle.dpe_engine.specs.Levels.{IsLevel}
 use Rattle.dpe_engine.proofs.PairSteps.{stays_settled}
@@ -36,7 +36,7 @@ level_has : (count : ℕ) (xs : List Pair) (p : Pair) → Contains xs p → size
 unfolding union_size
 level_has count xs p c e = group_has count xs p c e
 
-module _ (kind : ℕ) (memo : MemoTable) (cards : RowTable) (count : ℕ) (s : SeatView) (plan : IsPlanned memo cards) (l : IsLevel kind memo count s) where
+module _ (kind : ℕ) (memo : MemoTable) (cards : RowTable) (count : ℕ) (s : SeatView) (plan : IsMemoOfQuery memo cards) (l : IsLevel kind memo count s) where
   law : IsWorkable kind memo.query memo.pairs
   law = built_lists_are_workable kind memo.query memo.pairs plan.query plan.builds
 
@@ -88,7 +88,7 @@ module _ (kind : ℕ) (memo : MemoTable) (cards : RowTable) (count : ℕ) (s : S
       }
 
 -- no union has fewer than two relations
-pub first_level : (kind : ℕ) (memo : MemoTable) (cards : RowTable) (s : SeatView) → IsPlanned memo cards → IsSeatOf memo s → s.view.weight ≡ WEIGHT → BoundsAreMade kind s.view → ((r : ℕ) → r < relations memo.query → Settled kind s.view (single r))
+pub first_level : (kind : ℕ) (memo : MemoTable) (cards : RowTable) (s : SeatView) → IsMemoOfQuery memo cards → IsSeatOf memo s → s.view.weight ≡ WEIGHT → BoundsAreMade kind s.view → ((r : ℕ) → r < relations memo.query → Settled kind s.view (single r))
     → s.view.allowance ≡ DRAWS → IsLevel kind memo 2 s
 first_level kind memo cards s plan seat weight made leaves draws =
     record {
@@ -105,7 +105,7 @@ first_level kind memo cards s plan seat weight made leaves draws =
     }
 
 -- the same where the counter was looked at
-pub opened_level : (kind : ℕ) (memo : MemoTable) (cards : RowTable) (q : JoinQuery) (s t : SeatView) (n : ℕ) → IsPlanned memo cards → memo.query ≡ q → IsSeatOf memo s → s.view.weight ≡ WEIGHT → s.view.allowance ≡ DRAWS → ((r : ℕ) → r < relations q → Settled kind s.view (single r))
+pub opened_level : (kind : ℕ) (memo : MemoTable) (cards : RowTable) (q : JoinQuery) (s t : SeatView) (n : ℕ) → IsMemoOfQuery memo cards → memo.query ≡ q → IsSeatOf memo s → s.view.weight ≡ WEIGHT → s.view.allowance ≡ DRAWS → ((r : ℕ) → r < relations q → Settled kind s.view (single r))
     → t.table ≡ s.table → t.view ≡ with_floor s.view n → BoundsAreMade kind t.view → IsLevel kind memo 2 t
 opened_level kind memo cards q s t n plan e seat weight draws leaves table view made =
     let same_query : t.view.query ≡ s.view.query = ap (λ (v : View). v.query) view in
@@ -119,7 +119,7 @@ opened_level kind memo cards q s t n plan e seat weight draws leaves table view 
     (ap (λ (v : View). v.allowance) view ∙ draws)
 
 -- a memo of a stream's list, and the cards of its query
-pub stream_planned : (memo : MemoTable) (cards : RowTable) (g : JoinGraph) (q : JoinQuery) (list : List Pair) → memo.query ≡ q → memo.pairs ≡ list → IsQuery q → g ≡ graph_of q → Complete g list → Ordered list → IsCardTable q cards → IsPlanned memo cards
+pub stream_planned : (memo : MemoTable) (cards : RowTable) (g : JoinGraph) (q : JoinQuery) (list : List Pair) → memo.query ≡ q → memo.pairs ≡ list → IsQuery q → g ≡ graph_of q → Complete g list → Ordered list → IsCardTable q cards → IsMemoOfQuery memo cards
 stream_planned memo cards g q list e same ok is all order rows =
     let G : JoinGraph → Type 0 = λ h. (p : Pair) → Contains list p → Pairs h p in
     let builds : Builds (graph_of q) list = record { within = subst G is (λ p c. (all.members p).0 c); sides = order.sides } in

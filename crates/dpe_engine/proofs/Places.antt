@@ -17,7 +17,8 @@ use Rattle.dpe_base.proofs.SizeLaws.{full_below}
 use Rattle.join_graph.specs.Graphs.{graph_of}
 use Rattle.join_tree.specs.Trees.{Builds}
 use Rattle.pair_stream.specs.Orders.{StandsAt, Once, BuildsSide, Ordered}
-use Rattle.pair_stream.proofs.Lists.{contains_none, contains_cases, contains_filter, contains_from_filter, passes_from_filter, contains_from_map, pairs_map}
+use Rattle.dpe_base.proofs.Members.{contains_none, contains_cases}
+use Rattle.pair_stream.proofs.Lists.{contains_filter, contains_from_filter, passes_from_filter, contains_from_map, pairs_map}
 use Rattle.reorder_buffer.specs.declared.TheConstants.{SIZES}
 use Rattle.reorder_buffer.specs.Groups.{union_size, group_of}
 use Rattle.reorder_buffer.specs.Buffers.{AreSmall}

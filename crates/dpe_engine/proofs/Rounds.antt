@@ -9,7 +9,7 @@ use Rattle.memo_table.specs.declared.view.View.{View}
 use Rattle.memo_table.specs.Seats.{MemoTable, SeatView, IsSeatOf, BoundsAreMade}
 use Rattle.memo_table.specs.Views.{times, EachOnceBelow, with_floor}
 use Rattle.dpe_engine.specs.Working.{past, IsDone}
-use Rattle.dpe_engine.specs.Rounds.{IsPart, IsSplit, IsGathered, HaveWorked, MayTurn, HasTurned}
+use Rattle.dpe_engine.specs.Rounds.{IsWorkerSeat, IsSplit, IsGathered, HaveWorked, MayTurn, HasTurned}
 use Rattle.dpe_engine.proofs.Tickets.{past_is, once_in, once_out, sum_fixed, sum_both, some_positive}
 use Rattle.dpe_engine.proofs.Bursts.{more_done}
 
@@ -45,10 +45,10 @@ module _ (kind : ℕ) (memo : MemoTable) (base workers : ℕ) (group : List Pair
   size : length crew' ≡ workers
   size = w.size ∙ s.size
 
-  part : (k : ℕ) (d : SeatView) → k < length crew' → (k < length crew) × IsPart memo first (length group + 1) (get_or crew k d)
+  part : (k : ℕ) (d : SeatView) → k < length crew' → (k < length crew) × IsWorkerSeat memo first (length group + 1) (get_or crew k d)
   part k d h =
       let z = size in let q = s.size in let inside : k < length crew = omega arith in
-      (inside, All-get_or (IsPart memo first (length group + 1)) crew k d inside s.each)
+      (inside, All-get_or (IsWorkerSeat memo first (length group + 1)) crew k d inside s.each)
 
   -- the seats of the crew after the work
   pub crew_seats : All (IsSeatOf memo) crew'

@@ -170,7 +170,3 @@ module _ (kind : ℕ) (memo : MemoTable) (cards : RowTable) (workers room pairs 
         by_size : {P : Type 0} (xs : List Pair) → (xs ≡ [] → P) → (1 ≤ length xs → P) → P
         by_size [] a b = a refl
         by_size (x ∷ xs) a b = b (omega arith)
-
--- a buffer that is not full has fewer pairs
-pub not_full : (n own room : ℕ) → n ≤ room → own ≡ room → (n ≡ own → ⊥) → n < room
-not_full n own room h e ne = let m : n ≢ own = ne in omega arith

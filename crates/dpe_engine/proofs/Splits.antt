@@ -6,7 +6,7 @@ use Rattle.memo_table.specs.declared.view.View.{View}
 use Rattle.memo_table.specs.Seats.{MemoTable, SeatView, IsSeatOf}
 use Rattle.memo_table.specs.Views.{kept_part, given_part}
 use Rattle.dpe_engine.specs.Working.{AreWorkable, IsReady}
-use Rattle.dpe_engine.specs.Rounds.{AreReady, IsPart, IsSplit, MayTurn}
+use Rattle.dpe_engine.specs.Rounds.{AreReady, IsWorkerSeat, IsSplit, MayTurn}
 use Rattle.dpe_engine.proofs.PairSteps.{stays_settled}
 
 pub split_begins : (memo : MemoTable) (before : SeatView) (draws : ℕ) → IsSeatOf memo before → IsSplit memo before before [] 0 draws
@@ -19,7 +19,7 @@ split_begins memo before draws seat =
       weight = omega arith;
       allowance = omega arith;
       size = refl;
-      each = All-nil (IsPart memo before draws);
+      each = All-nil (IsWorkerSeat memo before draws);
     }
 
 -- what a split asks, while workers are left
@@ -41,7 +41,7 @@ split_more memo before now after part crew i draws s may at pt av pv =
       weight = let a = ap (λ (v : View). v.weight) av in let b = s.weight in let m = may.0 in omega arith;
       allowance = let a = ap (λ (v : View). v.allowance) av in let b = s.allowance in let m = may.1 in omega (arith, suc-mul i draws);
       size = let l = length-append crew (part ∷ []) in let z = s.size in omega arith;
-      each = All-push (IsPart memo before draws) crew part s.each record {
+      each = All-push (IsWorkerSeat memo before draws) crew part s.each record {
         seat = record { table = pt ∙ s.seat.table; query = ap (λ (v : View). v.query) pv ∙ s.seat.query; pairs = ap (λ (v : View). v.pairs) pv ∙ s.seat.pairs };
         floor = ap (λ (v : View). v.floor) pv ∙ s.floor;
         weight = ap (λ (v : View). v.weight) pv;
@@ -62,9 +62,9 @@ stay_workable kind group s t query pairs grow w =
 -- the crew is ready
 pub crew_ready : (kind : ℕ) (memo : MemoTable) (base workers : ℕ) (group : List Pair) (first split : SeatView) (crew : List SeatView) → MayTurn kind memo workers group first → first.view.floor ≡ base
     → IsSplit memo first split crew workers (length group + 1) → AreReady kind memo base group crew
-crew_ready kind memo base workers group first split crew m floor s = All-weaker (IsPart memo first (length group + 1)) (IsReady kind memo base group) one crew s.each
+crew_ready kind memo base workers group first split crew m floor s = All-weaker (IsWorkerSeat memo first (length group + 1)) (IsReady kind memo base group) one crew s.each
   where
-    one : (c : SeatView) → IsPart memo first (length group + 1) c → IsReady kind memo base group c
+    one : (c : SeatView) → IsWorkerSeat memo first (length group + 1) c → IsReady kind memo base group c
     one c p =
         record {
           seat = p.seat;

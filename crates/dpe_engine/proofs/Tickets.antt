@@ -10,9 +10,6 @@ use Rattle.dpe_engine.specs.Working.{past}
 pub past-append : (end : ℕ) (xs ys : List ℕ) → past end (xs ++ ys) ≡ past end xs + past end ys
 past-append end xs ys = sum_by-append (λ x. cond (nat_le end x) 1 0) xs ys
 
-pub times_one : (n : ℕ) → times n (n ∷ []) ≡ 1
-times_one n = grind (arith, nat_tests)
-
 pub times_other : (x n : ℕ) → x ≢ n → times x (n ∷ []) ≡ 0
 times_other x n ne = grind (arith, nat_tests)
 

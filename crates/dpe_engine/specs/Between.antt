@@ -10,7 +10,7 @@ use Rattle.memo_table.specs.Seats.{MemoTable, SeatView, IsSeatOf, BoundsAreMade,
 use Rattle.memo_table.specs.Views.{EachOnceBelow}
 use Rattle.reorder_buffer.specs.Buffers.{BufferedPairs}
 use Rattle.reorder_buffer.specs.Groups.{union_size, groups, runs, rounds}
-use Rattle.dpe_engine.specs.Working.{IsPlanned, IsDone}
+use Rattle.dpe_engine.specs.Working.{IsMemoOfQuery, IsDone}
 
 -- the pairs whose union has fewer than n relations
 abbrev pub below : ℕ → List Pair → List Pair
@@ -30,7 +30,7 @@ pub record IsBetween (kind : ℕ) (memo : MemoTable) (workers : ℕ) (finished :
 
 -- what the workers share, and that the memo's pairs stand after those that build their sides
 pub record IsShared (memo : MemoTable) (cards : RowTable) (workers : ℕ) : Type 0 where
-  pub planned : IsPlanned memo cards
+  pub planned : IsMemoOfQuery memo cards
   pub ordered : Ordered memo.pairs
   pub some : 1 ≤ workers
   pub few : workers ≤ 64

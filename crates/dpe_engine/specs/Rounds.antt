@@ -37,7 +37,7 @@ pub record HaveWorked (kind base : ℕ) (group : List Pair) (before after : List
   pub each : (k : ℕ) (d : SeatView) → k < length before → HasWorked kind base group (slice_index_or before k d) (slice_index_or after k d)
 
 -- a seat that was split off for a worker
-pub record IsPart (memo : MemoTable) (before : SeatView) (draws : ℕ) (s : SeatView) : Type 0 where
+pub record IsWorkerSeat (memo : MemoTable) (before : SeatView) (draws : ℕ) (s : SeatView) : Type 0 where
   pub seat : IsSeatOf memo s
   pub floor : s.view.floor ≡ before.view.floor
   pub weight : s.view.weight ≡ 1
@@ -54,7 +54,7 @@ pub record IsSplit (memo : MemoTable) (before after : SeatView) (crew : List Sea
   pub weight : after.view.weight + workers ≡ before.view.weight
   pub allowance : after.view.allowance + workers * draws ≡ before.view.allowance
   pub size : length crew ≡ workers
-  pub each : All (IsPart memo before draws) crew
+  pub each : All (IsWorkerSeat memo before draws) crew
 
 -- ---- sums over the main seat and the crew
 

@@ -15,7 +15,7 @@ abbrev pub past : ℕ → List ℕ → ℕ
 past end xs = count_by (λ x. nat_le end x) xs
 
 -- the memo is of a query and of a list that builds its sides, and the cards are the query's
-pub record IsPlanned (memo : MemoTable) (cards : RowTable) : Type 0 where
+pub record IsMemoOfQuery (memo : MemoTable) (cards : RowTable) : Type 0 where
   pub query : IsQuery memo.query
   pub builds : Builds (graph_of memo.query) memo.pairs
   pub rows : IsCardTable memo.query cards

@@ -1,7 +1,7 @@
 //! The seats of a round: one for each worker.
 ghost use Rattle.std.specs.Prelude.{◌≡◌, ◌+◌, ◌*◌, ◌≤◌, ◌<◌, [], All, length, vec_capacity};
 ghost use Rattle.memo_table.specs.Seats.{IsSeatOf};
-ghost use Rattle.dpe_engine.specs.Working.{IsPlanned, IsReady, HasWorked};
+ghost use Rattle.dpe_engine.specs.Working.{IsMemoOfQuery, IsReady, HasWorked};
 ghost use Rattle.dpe_engine.specs.Rounds.{AreReady, HaveWorked, IsSplit, IsGathered};
 
 use crate::gate::Gate;
@@ -66,7 +66,7 @@ pub(crate) fn work_each<M: CostModel, G: Gate, R: Threads + Sync>(
 )
     requires threads { 1 ≤ threads }
     requires few { (0 < length crew.old) × (length crew.old ≤ 64) }
-    requires planned { IsPlanned memo.now cards.now }
+    requires planned { IsMemoOfQuery memo.now cards.now }
     requires ready { AreReady M.KIND memo.now base pairs.now crew.old }
     ensures { HaveWorked M.KIND base pairs.now crew.old crew.new }
 {
@@ -75,7 +75,7 @@ pub(crate) fn work_each<M: CostModel, G: Gate, R: Threads + Sync>(
         crew,
         threads,
         &|i, seat: &mut MemoSeat<M>|
-            requires { (i < 64) × IsPlanned memo.now cards.now × IsReady M.KIND memo.now base pairs.now seat.old }
+            requires { (i < 64) × IsMemoOfQuery memo.now cards.now × IsReady M.KIND memo.now base pairs.now seat.old }
             ensures { HasWorked M.KIND base pairs.entry.now seat.old seat.new }
         { work(memo, base, pairs, model, cards, gate, i as u32, seat) },
     );

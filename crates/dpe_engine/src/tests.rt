@@ -1,6 +1,6 @@
 ghost use Rattle.std.specs.Prelude.{◌≡◌, ◌≤◌, ◌+◌, ◌==◌, [], IfOk, filter, length, vec_capacity};
 ghost use Rattle.dpe_base.specs.Sets.{union, size};
-ghost use Rattle.dpe_engine.specs.Working.{IsPlanned};
+ghost use Rattle.dpe_engine.specs.Working.{IsMemoOfQuery};
 ghost use Rattle.dpe_engine.specs.Levels.{IsLevel};
 
 mod gates;
@@ -65,7 +65,7 @@ fn work_level<R: Threads + Sync>(
     seat: &mut MemoSeat<Ops>,
     crew: &mut Vec<MemoSeat<Ops>>,
 ) -> u64
-    requires planned { IsPlanned memo.now cards.now }
+    requires planned { IsMemoOfQuery memo.now cards.now }
     requires level { IsLevel 0 memo.now count seat.old }
     requires count { count ≤ 100 }
     requires group { group.now ≡ filter (λ p. size (union p.a p.b) == count) memo.now.pairs }

@@ -1,6 +1,6 @@
 //! One round of all workers over a group of pairs.
 ghost use Rattle.std.specs.Prelude.{◌≡◌, ◌≤◌, [], vec_capacity};
-ghost use Rattle.dpe_engine.specs.Working.{IsPlanned};
+ghost use Rattle.dpe_engine.specs.Working.{IsMemoOfQuery};
 ghost use Rattle.dpe_engine.specs.Rounds.{MayTurn, HasTurned};
 
 use crate::crew::{gather, split_off, work_each};
@@ -36,7 +36,7 @@ pub(crate) fn round_in<M: CostModel, G: Gate, R: Threads + Sync>(
     crew: &mut Vec<MemoSeat<M>>,
 ) -> u64
     requires threads { 1 ≤ threads }
-    requires planned { IsPlanned memo.now cards.now }
+    requires planned { IsMemoOfQuery memo.now cards.now }
     requires may { MayTurn M.KIND memo.now workers pairs.now seat.old }
     requires empty { crew.old.items ≡ [] }
     requires room { workers ≤ vec_capacity crew.old }
@@ -78,7 +78,7 @@ pub fn round<M: CostModel, G: Gate, R: Threads + Sync>(
     seat: &mut MemoSeat<M>,
     crew: &mut Vec<MemoSeat<M>>,
 ) -> u64
-    requires planned { IsPlanned memo.now cards.now }
+    requires planned { IsMemoOfQuery memo.now cards.now }
     requires may { MayTurn M.KIND memo.now workers pairs.now seat.old }
     requires empty { crew.old.items ≡ [] }
     requires room { workers ≤ vec_capacity crew.old }

@@ -1,7 +1,7 @@
 //! One worker.
 ghost use Rattle.std.specs.Prelude.{Contains};
 ghost use Rattle.memo_table.specs.Seats.{IsSeatOf, Settled};
-ghost use Rattle.dpe_engine.specs.Working.{IsPlanned, IsReady, HasWorked, HasWorkedPair};
+ghost use Rattle.dpe_engine.specs.Working.{IsMemoOfQuery, IsReady, HasWorked, HasWorkedPair};
 
 use crate::gate::Gate;
 use arrayvec::ArrayVec;
@@ -18,7 +18,7 @@ fn work_pair<M: CostModel>(
     cards: &CardTable,
     seat: &mut MemoSeat<M>,
 )
-    requires planned { IsPlanned memo.now cards.now }
+    requires planned { IsMemoOfQuery memo.now cards.now }
     requires seat { IsSeatOf memo.now seat.old }
     requires listed { Contains memo.now.pairs pair }
     requires first { Settled M.KIND seat.old.view pair.a }
@@ -53,7 +53,7 @@ pub fn work<M: CostModel, G: Gate>(
     worker: u32,
     seat: &mut MemoSeat<M>,
 )
-    requires planned { IsPlanned memo.now cards.now }
+    requires planned { IsMemoOfQuery memo.now cards.now }
     requires ready { IsReady M.KIND memo.now base pairs.now seat.old }
     ensures { HasWorked M.KIND base pairs.now seat.old seat.new }
 {

@@ -17,7 +17,7 @@ use Rattle.plan_report.specs.declared.entry.Stats.{Stats}
 use Rattle.plan_report.specs.Words.{HasBestWords}
 use Rattle.dpe_engine.specs.Engines.{EnginePlan, IsLeastWord}
 use Rattle.dpe_words.specs.declared.choices.Settings.{Settings}
-use Rattle.dpe_top.specs.Enumerations.{pairs_of, probes_of, stats_with}
+use Rattle.dpe_top.specs.Enumerations.{pairs_of, total_probes, stats_with}
 use Rattle.dpe_top.specs.Plans.{IsPlanOf}
 
 -- each word of the row is the least of its set, or EMPTY
@@ -47,7 +47,7 @@ pub run_plans : (kind : ℕ) (settings : Settings) (q : JoinQuery) (pairs : List
     → e ≡ record { query = q; pairs = pairs; buffer = settings.buffer; workers = settings.workers }
     → pairs ≡ pairs_of settings.enumerator (graph_of q) → Complete (graph_of q) pairs
     → count ≡ length e.pairs → filled ≡ length (runs e.buffer e.pairs) → worked ≡ rounds e.buffer e.pairs
-    → looked ≡ probes_of settings.enumerator (graph_of q) → stats ≡ stats_with settings filled worked looked
+    → looked ≡ total_probes settings.enumerator (graph_of q) → stats ≡ stats_with settings filled worked looked
     → n ≡ relations q → all ≡ full n → Plan kind q all (tree_of tree)
     → IsPlanOf kind settings q (record { tree = tree; pairs = count; stats = stats })
 run_plans kind settings q pairs e count filled worked looked n all tree stats is list complete counted fills turns looks said sized whole plan =

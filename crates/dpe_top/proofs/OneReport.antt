@@ -20,7 +20,7 @@ use Rattle.plan_report.specs.Reports.{report_bytes}
 use Rattle.dpe_words.specs.declared.choices.Settings.{Settings}
 use Rattle.dpe_top.specs.Enumerations.{stats_of, stats_with}
 use Rattle.dpe_top.specs.Laws.{OneReport, WorkersDoNotShow, OnlyStatisticsShowTheEnumerator}
-use Rattle.dpe_top.specs.Reports.{IsPlanned, IsPart, Says, IsReport, kind_of}
+use Rattle.dpe_top.specs.Reports.{IsPlanned, IsEntrySaid, Says, IsReport, kind_of}
 use Rattle.dpe_top.proofs.Accepted.{sound_entries}
 use Rattle.dpe_top.proofs.OneSample.{one_number, ap_cons}
 
@@ -55,7 +55,7 @@ same_refused : (name m n : List ℕ) (why v w : QueryRefusal) → m ≡ name →
 same_refused name m n why v w e f g h = cc
 
 one_part : (settings other : Settings) (name : List ℕ) (part : Part) (x y : ReportEntry) → ShowAlike settings other → IsPartSound part
-    → IsPart settings name part x → IsPart other name part y → x ≡ y
+    → IsEntrySaid settings name part x → IsEntrySaid other name part y → x ≡ y
 one_part settings other name (Accepted named) (planned x) (planned y) alike sound a b =
     ap planned (one_planned settings other name named x y alike sound a b)
 one_part settings other name (Accepted named) (planned x) (refused n w) alike sound a b = absurd b

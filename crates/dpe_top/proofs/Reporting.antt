@@ -13,7 +13,7 @@ use Rattle.plan_report.specs.Json.{report_line}
 use Rattle.plan_report.specs.Reports.{Appends, Holds, format_of, text_in, entries_in, report_bytes}
 use Rattle.plan_report.proofs.Holdings.{holds_none, holds_more}
 use Rattle.dpe_words.specs.declared.choices.Settings.{Settings}
-use Rattle.dpe_top.specs.Reports.{IsPart, IsReport, Says, is_refused, has_refused}
+use Rattle.dpe_top.specs.Reports.{IsEntrySaid, IsReport, Says, is_refused, has_refused}
 
 -- the report says this of the first i entries
 pub record HasSaid (settings : Settings) (entries : List Entry) (i : ℕ) (report : Report) : Type 0 where
@@ -22,12 +22,8 @@ pub record HasSaid (settings : Settings) (entries : List Entry) (i : ℕ) (repor
   pub holds : Holds report said
   pub format : format_of report ≡ settings.format
 
-pub said_none : (settings : Settings) (entries : List Entry) (report : Report)
-    → format_of report ≡ settings.format → text_in report ≡ [] → entries_in report ≡ [] → HasSaid settings entries 0 report
-said_none settings entries report format text none = record { said = []; says = tt; holds = holds_none report text none; format = format }
-
 says_more : (settings : Settings) (entries : List Entry) (said : List ReportEntry) (entry : Entry) (more : ReportEntry)
-    → Says settings entries said → IsPart settings entry.name entry.part more → Says settings (entries ++ (entry ∷ [])) (said ++ (more ∷ []))
+    → Says settings entries said → IsEntrySaid settings entry.name entry.part more → Says settings (entries ++ (entry ∷ [])) (said ++ (more ∷ []))
 says_more settings [] [] entry more s p = (p, tt)
 says_more settings [] (x ∷ xs) entry more s p = absurd s
 says_more settings (e ∷ es) [] entry more s p = absurd s
@@ -40,7 +36,7 @@ take_next xs i x e =
 
 -- one entry more
 pub said_more : (settings : Settings) (entries : List Entry) (i : ℕ) (old new : Report) (entry : Entry) (more : ReportEntry)
-    → HasSaid settings entries i old → slice_get entries i ≡ Some entry → IsPart settings entry.name entry.part more → Appends old new more → HasSaid settings entries (i + 1) new
+    → HasSaid settings entries i old → slice_get entries i ≡ Some entry → IsEntrySaid settings entry.name entry.part more → Appends old new more → HasSaid settings entries (i + 1) new
 said_more settings entries i old new entry more has at part grown =
     record {
       said = has.said ++ (more ∷ []);
@@ -48,27 +44,6 @@ said_more settings entries i old new entry more has at part grown =
       holds = holds_more old new has.said more grown has.holds;
       format = grown.format ∙ has.format;
     }
-
--- all entries
-all_said : (settings : Settings) (entries : List Entry) (n : ℕ) (report : Report) → n ≡ length entries → (has : HasSaid settings entries n report) → Says settings entries has.said
-all_said settings entries n report whole has =
-    subst (λ (es : List Entry). Says settings es has.said) (take_all n entries (omega arith)) has.says
-
-pub reported_text : (settings : Settings) (entries : List Entry) (n : ℕ) (report : Report) (text : List ℕ)
-    → n ≡ length entries → HasSaid settings entries n report → settings.format ≡ Text → text ≡ text_in report → IsReport settings entries text
-reported_text settings entries n report text whole has format is = (
-  has.said,
-  all_said settings entries n report whole has,
-  subst (λ (f : Format). text ≡ report_bytes f has.said) (sym format) (is ∙ has.holds.in_text (has.format ∙ format)),
-)
-
-pub reported_json : (settings : Settings) (entries : List Entry) (n : ℕ) (report : Report) (text : List ℕ)
-    → n ≡ length entries → HasSaid settings entries n report → settings.format ≡ Json → text ≡ report_line (entries_in report) → IsReport settings entries text
-reported_json settings entries n report text whole has format is = (
-  has.said,
-  all_said settings entries n report whole has,
-  subst (λ (f : Format). text ≡ report_bytes f has.said) (sym format) (is ∙ ap report_line (has.holds.in_json (has.format ∙ format))),
-)
 
 pub refused_at : (entries : List Entry) (i : ℕ) (entry : Entry) → slice_get entries i ≡ Some entry → is_refused entry ≡ true → has_refused entries ≡ true
 refused_at entries i entry at refused =

@@ -54,24 +54,6 @@ queries_same : (entries : List Entry) (i : ℕ) (entry : Entry) → slice_get en
 queries_same entries i entry at none =
     rw (take_next entries i entry at, filter_map-append (λ (e : Entry). query_in e.part) (take i entries) (entry ∷ []), none) (append-nil _)
 
-pub summed_none : (kind : ℕ) (entries : List Entry) → HasSummed kind entries 0 (record { queries = 0; relations = 0; joins = 0; pairs = 0; cost = 0 })
-summed_none kind entries = record {
-  totals = ([], tt, refl);
-  sound = All-nil IsEntrySound;
-  small = record { queries = omega arith; relations = omega arith; joins = omega arith; pairs = omega arith; cost = omega arith };
-}
-
--- there is room for one more
-pub summed_room : (kind : ℕ) (entries : List Entry) (i n : ℕ) (t : Totals) → HasSummed kind entries i t → i < n → n < 2 ^ 64
-    → AreAtMost (2 ^ 64 * (2 ^ 64 - 1)) t
-summed_room kind entries i n t has before few = record {
-  queries = omega (arith, has.small.queries);
-  relations = omega (arith, has.small.relations);
-  joins = omega (arith, has.small.joins);
-  pairs = omega (arith, has.small.pairs);
-  cost = omega (arith, has.small.cost);
-}
-
 pub small_more : (i a b : ℕ) → a ≤ 2 ^ 64 * i → b < 2 ^ 64 → a + b ≤ 2 ^ 64 * (i + 1)
 small_more i a b small fits = omega (arith)
 

@@ -20,11 +20,11 @@ pairs_of DpSize g = seq_dpsize g
 pairs_of DpSva g = seq_dpsize g
 
 -- how many entries it looks at through skip vectors
-abbrev pub probes_of : Kind → JoinGraph → ℕ
-probes_of DpCcp g = 0
-probes_of DpSub g = 0
-probes_of DpSize g = 0
-probes_of DpSva g = dpsva_probes g
+abbrev pub total_probes : Kind → JoinGraph → ℕ
+total_probes DpCcp g = 0
+total_probes DpSub g = 0
+total_probes DpSize g = 0
+total_probes DpSva g = dpsva_probes g
 
 -- so many buffers, rounds and probes, where the settings ask for statistics
 abbrev pub stats_with : Settings → ℕ → ℕ → ℕ → Option Stats
@@ -34,4 +34,4 @@ stats_with s filled worked looked =
 -- the runs of the enumerator's list, the groups of all runs, and the probes
 abbrev pub stats_of : Settings → JoinGraph → Option Stats
 stats_of s g =
-    stats_with s (length (runs s.buffer (pairs_of s.enumerator g))) (rounds s.buffer (pairs_of s.enumerator g)) (probes_of s.enumerator g)
+    stats_with s (length (runs s.buffer (pairs_of s.enumerator g))) (rounds s.buffer (pairs_of s.enumerator g)) (total_probes s.enumerator g)

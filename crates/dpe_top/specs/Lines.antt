@@ -1,11 +1,9 @@
 -- The lines that are written in place of a report.
-use Rattle.std.specs.Prelude.{ℕ, List, [], ◌∷◌, ◌++◌, codes}
+use Rattle.std.specs.Prelude.{ℕ, List, [], ◌++◌, codes}
 use Rattle.query_json.specs.declared.fault.FileFault.{FileFault}
 use Rattle.query_json.specs.declared.fault.FileFault.TheVariants.{NotJson, Shape, TooManyTables, TooManyQueries, DuplicateTable, NoMemory}
 use Rattle.query_json.specs.Texts.{path_of}
-
-abbrev pub newline : List ℕ
-newline = 10 ∷ []
+use Rattle.plan_report.specs.Texts.{newline}
 
 -- a file's fault in words; want of memory is none
 abbrev pub fault_text : FileFault → List ℕ

@@ -31,18 +31,18 @@ pub record IsPlanned (settings : Settings) (name : List ℕ) (named : Named) (sa
   pub stats : said.stats ≡ stats_of settings (graph_of named.query)
   pub rest : said ≡ record said { name = name; aliases = named.aliases; kind = kind_of settings.model; query = named.query }
 
-abbrev pub IsPart : Settings → List ℕ → Part → ReportEntry → Type 0
-IsPart settings name (Accepted named) (planned said) = IsPlanned settings name named said
-IsPart settings name (Accepted named) (refused n why) = ⊥
-IsPart settings name (Refused why) (planned said) = ⊥
-IsPart settings name (Refused why) (refused n w) = (n ≡ name) × (w ≡ why)
+abbrev pub IsEntrySaid : Settings → List ℕ → Part → ReportEntry → Type 0
+IsEntrySaid settings name (Accepted named) (planned said) = IsPlanned settings name named said
+IsEntrySaid settings name (Accepted named) (refused n why) = ⊥
+IsEntrySaid settings name (Refused why) (planned said) = ⊥
+IsEntrySaid settings name (Refused why) (refused n w) = (n ≡ name) × (w ≡ why)
 
 -- what the report says of the entries, one by one
 abbrev pub Says : Settings → List Entry → List ReportEntry → Type 0
 Says settings [] [] = Unit {0}
 Says settings [] (said ∷ more) = ⊥
 Says settings (entry ∷ entries) [] = ⊥
-Says settings (entry ∷ entries) (said ∷ more) = IsPart settings entry.name entry.part said × Says settings entries more
+Says settings (entry ∷ entries) (said ∷ more) = IsEntrySaid settings entry.name entry.part said × Says settings entries more
 
 -- the text is the report of the entries, in the format that is asked for
 abbrev pub IsReport : Settings → List Entry → List ℕ → Type 0

@@ -12,8 +12,8 @@ use Rattle.query_json.specs.declared.entry.Part.{Part}
 use Rattle.query_json.specs.declared.entry.Part.TheVariants.{Accepted, Refused}
 use Rattle.query_json.specs.Entries.{entries_of}
 use Rattle.query_json.specs.Sound.{IsEntrySound}
+use Rattle.plan_report.specs.Texts.{newline}
 use Rattle.workload_gen.specs.Values.{workload_of}
-use Rattle.dpe_top.specs.Lines.{newline}
 use Rattle.dpe_top.specs.declared.summary.Share.{Share}
 use Rattle.dpe_top.specs.declared.summary.Totals.{Totals}
 

@@ -5,7 +5,7 @@ ghost use Rattle.dpe_base.specs.Sets.{full};
 ghost use Rattle.join_graph.specs.Graphs.{Connected, graph_of};
 ghost use Rattle.pair_stream.specs.Orders.{Complete, Ordered};
 ghost use Rattle.dpe_words.specs.Line.{AreInRange};
-ghost use Rattle.dpe_top.specs.Enumerations.{pairs_of, probes_of, stats_with};
+ghost use Rattle.dpe_top.specs.Enumerations.{pairs_of, total_probes, stats_with};
 ghost use Rattle.dpe_top.specs.Plans.{IsPlanOf};
 
 use cost_model::CostModel;
@@ -61,7 +61,7 @@ fn plan_over<M: CostModel, P: PairStream, G: Gate, R: Threads + Sync>(
     requires list { P.left stream ≡ pairs_of settings.now.enumerator (graph_of query.now) }
     requires complete { Complete (graph_of query.now) (P.left stream) }
     requires ordered { Ordered (P.left stream) }
-    requires total { P.total stream ≡ probes_of settings.now.enumerator (graph_of query.now) }
+    requires total { P.total stream ≡ total_probes settings.now.enumerator (graph_of query.now) }
     ensures { IfOk result (IsPlanOf M.KIND settings.now query.now) }
 {
     let all = RelSet::full(query.n());

@@ -7,7 +7,7 @@ ghost use Rattle.dpe_words.specs.Line.{AreInRange};
 ghost use Rattle.plan_report.specs.Entries.{PlannedQuery, ReportEntry, planned};
 ghost use Rattle.plan_report.specs.Reports.{Appends};
 ghost use Rattle.query_json.specs.Sound.{IsEntrySound, IsSound};
-ghost use Rattle.dpe_top.specs.Reports.{IsPart, IsPlanned, IsReport, has_refused, is_refused, kind_of};
+ghost use Rattle.dpe_top.specs.Reports.{IsEntrySaid, IsPlanned, IsReport, has_refused, is_refused, kind_of};
 
 use crate::plan::plan;
 use cost_model::{CostModel, Cout, ModelKind, Ops};
@@ -63,7 +63,7 @@ fn append_entry<M: CostModel, G: Gate, R: Threads + Sync>(
     requires sound { IsEntrySound entry.now }
     requires ranges { AreInRange settings.now }
     requires model { kind_of settings.now.model ≡ M.KIND }
-    ensures { OnOk result ((said : ReportEntry) × IsPart settings.now entry.now.name entry.now.part said
+    ensures { OnOk result ((said : ReportEntry) × IsEntrySaid settings.now entry.now.name entry.now.part said
         × Appends report.old report.new said) }
 {
     match &entry.part {

@@ -81,16 +81,16 @@ pub record AreInRange (s : Settings) : Type 0 where
   pub workers : (1 ≤ s.workers) × (s.workers ≤ 64)
 
 -- the answer is what the words say, or Usage where they say nothing; want of memory is free
-abbrev pub Tells : {X : Type 0} → Result X WordFault → Option X → Type 0
-Tells (Ok x) said = said ≡ Some x
-Tells (Err Usage) said = said ≡ None
-Tells (Err NoMemory) said = Unit {0}
+abbrev pub IsSaid : {X : Type 0} → Result X WordFault → Option X → Type 0
+IsSaid (Ok x) said = said ≡ Some x
+IsSaid (Err Usage) said = said ≡ None
+IsSaid (Err NoMemory) said = Unit {0}
 
 -- the same of an answer that is seen by view
-abbrev pub TellsBy : {X Y : Type 0} → (X → Y) → Result X WordFault → Option Y → Type 0
-TellsBy view (Ok x) said = said ≡ Some (view x)
-TellsBy view (Err Usage) said = said ≡ None
-TellsBy view (Err NoMemory) said = Unit {0}
+abbrev pub IsSaidBy : {X Y : Type 0} → (X → Y) → Result X WordFault → Option Y → Type 0
+IsSaidBy view (Ok x) said = said ≡ Some (view x)
+IsSaidBy view (Err Usage) said = said ≡ None
+IsSaidBy view (Err NoMemory) said = Unit {0}
 
 -- ---- how the program holds words and values
 

@@ -1,6 +1,6 @@
 ghost use Rattle.std.specs.Prelude.{◌≡◌, map, IfOk, IfSome};
 ghost use Rattle.dpe_words.specs.Command.{whole_line};
-ghost use Rattle.dpe_words.specs.Line.{AreInRange, Tells, TellsBy, given_by, given_in, settings_by, settings_of, texts_of};
+ghost use Rattle.dpe_words.specs.Line.{AreInRange, IsSaid, IsSaidBy, given_by, given_in, settings_by, settings_of, texts_of};
 
 use crate::choices::{Settings, WordFault};
 use crate::command::dpe_command;
@@ -36,7 +36,7 @@ fn line_of<'a>(alloc: Global, words: &'a [String]) -> Result<Vec<&'a str>, Alloc
 
 /// The values that the words of a whole line give the options.
 fn texts_in<'a>(alloc: Global, line: &'a [&'a str]) -> Result<Texts<'a>, WordFault>
-    ensures { (words : _) → map (λ s. s.now) line.entry.now ≡ whole_line words → TellsBy given_in result (given_by words) }
+    ensures { (words : _) → map (λ s. s.now) line.entry.now ≡ whole_line words → IsSaidBy given_in result (given_by words) }
 {
     let command = dpe_command(alloc)?;
     match command.try_get_matches_from(line) {
@@ -87,7 +87,7 @@ fn settings_in(texts: &Texts) -> Option<Settings>
 /// no command line.
 #[tactic(auto, unfolding(crate::specs::Line::settings_of))]
 pub fn settings(alloc: Global, words: &[String]) -> Result<Settings, WordFault>
-    ensures told { Tells result (settings_of (texts_of words.now)) }
+    ensures told { IsSaid result (settings_of (texts_of words.now)) }
     ensures ranges { IfOk result AreInRange }
 {
     let line = line_of(alloc, words)?;

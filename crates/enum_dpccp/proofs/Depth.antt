@@ -8,7 +8,7 @@ use Rattle.dpe_base.proofs.SizeLaws.{size-union, size_none, size_full}
 use Rattle.join_graph.specs.Graphs.{JoinGraph, IsGraph, Edge}
 use Rattle.pair_stream.specs.Subsets.{subsets}
 use Rattle.pair_stream.specs.Connectivity.{neighbours}
-use Rattle.pair_stream.proofs.Lists.{contains_head, contains_tail}
+use Rattle.dpe_base.proofs.Members.{contains_head, contains_tail}
 use Rattle.pair_stream.proofs.SubsetLaws.{subsets_has, subsets_last}
 use Rattle.pair_stream.proofs.ConnectivityLaws.{neighbours_is}
 use Rattle.enum_dpccp.specs.Dpccp.{neighbours_outside, extensions, all_extensions}

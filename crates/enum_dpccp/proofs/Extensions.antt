@@ -11,7 +11,8 @@ use Rattle.join_graph.specs.Graphs.{JoinGraph, IsGraph, Edge, Crossed, Connected
 use Rattle.join_graph.proofs.Growth.{connected_more}
 use Rattle.pair_stream.specs.Subsets.{subsets}
 use Rattle.pair_stream.specs.Connectivity.{neighbours}
-use Rattle.pair_stream.proofs.Lists.{contains_map, contains_from_map, contains_flat_map, contains_from_flat_map, contains_none, pairs_nil, pairs_append, pairs_map, pairs_flat_map}
+use Rattle.dpe_base.proofs.Members.{contains_none}
+use Rattle.pair_stream.proofs.Lists.{contains_map, contains_from_map, contains_flat_map, contains_from_flat_map, pairs_nil, pairs_append, pairs_map, pairs_flat_map}
 use Rattle.pair_stream.proofs.SubsetLaws.{subsets_has, subsets_ascend, positive}
 use Rattle.pair_stream.proofs.ConnectivityLaws.{neighbours_is}
 use Rattle.enum_dpccp.specs.Dpccp.{neighbours_outside, extensions}

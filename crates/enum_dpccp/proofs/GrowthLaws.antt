@@ -10,7 +10,7 @@ use Rattle.dpe_base.proofs.SizeLaws.{size-empty, size-union, size_none, size_ful
 use Rattle.join_graph.specs.Graphs.{JoinGraph, IsGraph, Edge}
 use Rattle.pair_stream.specs.Subsets.{subsets_after}
 use Rattle.pair_stream.specs.Connectivity.{neighbours}
-use Rattle.pair_stream.proofs.Lists.{contains_head, contains_tail}
+use Rattle.dpe_base.proofs.Members.{contains_head, contains_tail}
 use Rattle.pair_stream.proofs.SubsetLaws.{subsets_has, subsets_next, subsets_last}
 use Rattle.pair_stream.proofs.ConnectivityLaws.{neighbours_is}
 use Rattle.enum_dpccp.specs.declared.growth.Call.{Call}
@@ -108,9 +108,6 @@ child_is g c k from t neighbours ok fits left n e some =
       left = left ∙ calls_next g c from t n;
     }
 
-pub subset_known : (g : JoinGraph) (c : Call) (k from t : ℕ) → CallFits g k c → IsNextSubset from c.neighbours t → Within t (full g.n)
-subset_known g c k from t fits n = within_trans t c.neighbours (full g.n) n.within fits.neighbours_known
-
 pub fewer : (o s t : ℕ) → IsNextSubset s o t → o - t < o - s
 fewer o s t n = omega (arith, n.greater, within_le t o n.within)
 
@@ -175,9 +172,6 @@ popped g old cs c s e =
 
 pub pushed : (g : JoinGraph) (cs : List Call) (c : Call) → CallsFit g 0 cs → CallFits g (length cs) c → CallsFit g 0 (cs ++ c ∷ [])
 pushed g cs c s h = fits_push g 0 cs c s (subst (λ (n : ℕ). CallFits g n c) (omega arith) h)
-
-pub has_room : (g : JoinGraph) (k : ℕ) (c : Call) → IsGraph g → CallFits g k c → k < N_MAX
-has_room g k c ok h = omega (arith, h.room, ok.few)
 
 pub fits_at : (g : JoinGraph) (k : ℕ) (c : Call) (last : ℕ) → CallFits g k c → Within last c.neighbours → CallFits g k (call c.base c.neighbours c.excluded last)
 fits_at g k c last h w =

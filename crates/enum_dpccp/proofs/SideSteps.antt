@@ -12,7 +12,8 @@ use Rattle.dpe_base.specs.Sets.{Has, Within, IsLeast, member, union, inter, minu
 use Rattle.dpe_base.proofs.SetLaws.{sets, same_set, empty_has, has_some, single_has, single_one, full_has, full_limit, union_right, minus_left, minus_right}
 use Rattle.join_graph.specs.Graphs.{JoinGraph, IsGraph, Connected}
 use Rattle.pair_stream.specs.Subsets.{least, descending}
-use Rattle.pair_stream.proofs.Lists.{contains_none, contains_head, contains_tail, passes_from_filter}
+use Rattle.dpe_base.proofs.Members.{contains_head, contains_tail, contains_none}
+use Rattle.pair_stream.proofs.Lists.{passes_from_filter}
 use Rattle.pair_stream.proofs.SubsetLaws.{descending_has}
 use Rattle.enum_dpccp.specs.Dpccp.{grown_from, all_extensions, neighbours_outside, excluded, first_sides, second_sides}
 use Rattle.enum_dpccp.specs.Sides.{IsGreatest, first_sides_below, second_sides_from}

@@ -12,7 +12,8 @@ use Rattle.join_graph.proofs.GraphLaws.{crossed_back}
 use Rattle.pair_stream.specs.Connectivity.{adjacent_to_members}
 use Rattle.pair_stream.specs.Subsets.{meets, least}
 use Rattle.pair_stream.specs.Orders.{BuildsSide, Ordered, Complete}
-use Rattle.pair_stream.proofs.Lists.{contains_head, contains_tail, contains_cases, contains_none, contains_map, contains_from_map, contains_filter, contains_from_filter, passes_from_filter, contains_flat_map, contains_from_flat_map, contains_range, contains_from_range, pairs_nil, pairs_head, pairs_tail, pairs_append, pairs_map, pairs_filter, pairs_flat_map, pairs_range, pairs_weaker}
+use Rattle.dpe_base.proofs.Members.{contains_head, contains_tail, contains_none, contains_cases}
+use Rattle.pair_stream.proofs.Lists.{contains_map, contains_from_map, contains_filter, contains_from_filter, passes_from_filter, contains_flat_map, contains_from_flat_map, contains_range, contains_from_range, pairs_nil, pairs_head, pairs_tail, pairs_append, pairs_map, pairs_filter, pairs_flat_map, pairs_range, pairs_weaker}
 use Rattle.pair_stream.proofs.SubsetLaws.{least_is, meets_true}
 use Rattle.pair_stream.proofs.ConnectivityLaws.{joined_true}
 use Rattle.pair_stream.proofs.OrderLaws.{MayPrecede, complete_from, ordered_from}

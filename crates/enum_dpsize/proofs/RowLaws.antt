@@ -11,7 +11,7 @@ use Rattle.pair_stream.specs.Connectivity.{adjacent_to_members}
 use Rattle.pair_stream.specs.Subsets.{meets, least}
 use Rattle.pair_stream.proofs.SubsetLaws.{meets_true, least_is}
 use Rattle.pair_stream.proofs.ConnectivityLaws.{joined_true}
-use Rattle.enum_dpsize.specs.Dpsize.{is_joinable, pair_by_least, pairs_with, pairs_after, rows, rows_from, start_at}
+use Rattle.enum_dpsize.specs.Dpsize.{is_joinable, pair_by_least, pairs_with, pairs_after, row_pairs, rows_from, start_at}
 
 pub not_joinable : (g : JoinGraph) (x y : ℕ) → Meets x y → false ≡ is_joinable g x y
 unfolding is_joinable
@@ -69,24 +69,24 @@ row_over g ys x j l = ap (λ zs. map (pair_by_least x) (filter (is_joinable g x)
 
 -- ---- rows
 
-rows_none : (g : JoinGraph) (ys : List ℕ) (same : Bool) → rows g ys same [] ≡ []
+rows_none : (g : JoinGraph) (ys : List ℕ) (same : Bool) → row_pairs g ys same [] ≡ []
 rows_none g ys true = refl
 rows_none g ys false = refl
 
 -- a row begins
-begin_at : (g : JoinGraph) (ys : List ℕ) (same : Bool) (x : ℕ) (rest : List ℕ) (i : ℕ) → (same ≡ true → drop (i + 1) ys ≡ rest) → rows_from g ys same (x ∷ rest) (start_at same i) ≡ rows g ys same (x ∷ rest)
+begin_at : (g : JoinGraph) (ys : List ℕ) (same : Bool) (x : ℕ) (rest : List ℕ) (i : ℕ) → (same ≡ true → drop (i + 1) ys ≡ rest) → rows_from g ys same (x ∷ rest) (start_at same i) ≡ row_pairs g ys same (x ∷ rest)
 begin_at g ys true x rest i h = ap (λ zs. pairs_with g zs x ++ pairs_after g rest) (h refl)
 begin_at g ys false x rest i h = refl
 
-pub row_begins : (g : JoinGraph) (xs ys : List ℕ) (same : Bool) (i : ℕ) → (same ≡ true → xs ≡ ys) → rows_from g ys same (drop i xs) (start_at same i) ≡ rows g ys same (drop i xs)
+pub row_begins : (g : JoinGraph) (xs ys : List ℕ) (same : Bool) (i : ℕ) → (same ≡ true → xs ≡ ys) → rows_from g ys same (drop i xs) (start_at same i) ≡ row_pairs g ys same (drop i xs)
 row_begins g xs ys same i h =
     elim (cases_lt i (length xs)) [
       | inl l ↦
           let e : drop i xs ≡ get_or xs i 0 ∷ drop (i + 1) xs = drop_cons xs i l in
           ap (λ zs. rows_from g ys same zs (start_at same i)) e
           ∙ begin_at g ys same (get_or xs i 0) (drop (i + 1) xs) i (λ t. ap (drop (i + 1)) (sym (h t)))
-          ∙ ap (rows g ys same) (sym e)
-      | inr l ↦ ap (λ zs. rows_from g ys same zs (start_at same i)) (drop_all i xs l) ∙ sym (ap (rows g ys same) (drop_all i xs l) ∙ rows_none g ys same)
+          ∙ ap (row_pairs g ys same) (sym e)
+      | inr l ↦ ap (λ zs. rows_from g ys same zs (start_at same i)) (drop_all i xs l) ∙ sym (ap (row_pairs g ys same) (drop_all i xs l) ∙ rows_none g ys same)
     ]
   where
     drop_cons : (xs : List ℕ) (i : ℕ) → i < length xs → drop i xs ≡ get_or xs i 0 ∷ drop (i + 1) xs
@@ -95,18 +95,11 @@ row_begins g xs ys same i h =
         next : suc i ≡ i + 1
         next = omega arith
 
--- the row of x gives a pair
-pub rows_taken : (g : JoinGraph) (xs ys : List ℕ) (same : Bool) (i j n x : ℕ) (p : Pair) → i < length xs → x ≡ get_or xs i x → pairs_with g (drop j ys) x ≡ p ∷ pairs_with g (drop n ys) x → rows_from g ys same (drop i xs) j ≡ p ∷ rows_from g ys same (drop i xs) n
-rows_taken g xs ys same i j n x p l ex e =
-    ap (λ zs. rows_from g ys same zs j) (split xs i x l ex)
-    ∙ ap (λ zs. zs ++ rows g ys same (drop (i + 1) xs)) e
-    ∙ ap (λ zs. p ∷ rows_from g ys same zs n) (sym (split xs i x l ex))
-
 -- the row of x is over
 pub rows_next : (g : JoinGraph) (xs ys : List ℕ) (same : Bool) (i j n x : ℕ) → i < length xs → x ≡ get_or xs i x → pairs_with g (drop j ys) x ≡ [] → (same ≡ true → xs ≡ ys) → n ≡ start_at same (i + 1) → rows_from g ys same (drop i xs) j ≡ rows_from g ys same (drop (i + 1) xs) n
 rows_next g xs ys same i j n x l ex e h en =
     ap (λ zs. rows_from g ys same zs j) (split xs i x l ex)
-    ∙ ap (λ zs. zs ++ rows g ys same (drop (i + 1) xs)) e
+    ∙ ap (λ zs. zs ++ row_pairs g ys same (drop (i + 1) xs)) e
     ∙ sym (row_begins g xs ys same (i + 1) h)
     ∙ ap (λ (k : ℕ). rows_from g ys same (drop (i + 1) xs) k) (sym en)
 

@@ -32,8 +32,8 @@ unfoldable pub seq_dpsize : JoinGraph → List Pair
 seq_dpsize g = flat_map (λ s. flat_map (λ k. pairs_sized g k (s - k)) (range_with_len 1 (s / 2))) (range_with_len 2 (g.n - 1))
 
 -- the pairs of the first sets xs with the second sets ys, or with the later ones of the same list
-abbrev pub rows : JoinGraph → List ℕ → Bool → List ℕ → List Pair
-rows g ys same xs = if same then pairs_after g xs else flat_map (pairs_with g ys) xs
+abbrev pub row_pairs : JoinGraph → List ℕ → Bool → List ℕ → List Pair
+row_pairs g ys same xs = if same then pairs_after g xs else flat_map (pairs_with g ys) xs
 
 -- where a row begins: at the place after its own set, or at the first
 abbrev pub start_at : Bool → ℕ → ℕ
@@ -42,7 +42,7 @@ start_at same i = if same then i + 1 else 0
 -- the same, the first row from place j on
 abbrev pub rows_from : JoinGraph → List ℕ → Bool → List ℕ → ℕ → List Pair
 rows_from g ys same [] j = []
-rows_from g ys same (x ∷ xs) j = pairs_with g (drop j ys) x ++ rows g ys same xs
+rows_from g ys same (x ∷ xs) j = pairs_with g (drop j ys) x ++ row_pairs g ys same xs
 
 -- the pairs from the sizes s and k, row i and place j on
 unfoldable pub dpsize_left : JoinGraph → ℕ → ℕ → ℕ → ℕ → List Pair

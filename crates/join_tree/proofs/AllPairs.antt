@@ -14,7 +14,7 @@ use Rattle.join_graph.specs.Graphs.{JoinGraph, IsGraph, Edge, Crossed, Connected
 use Rattle.join_graph.proofs.Edges.{graph_is}
 use Rattle.join_graph.proofs.GraphLaws.{connected_union}
 use Rattle.join_tree.specs.Laws.{AllPairs}
-use Rattle.join_tree.proofs.LeastOf.{Contains-nil, Contains-first, Contains-cases}
+use Rattle.dpe_base.proofs.Members.{contains_head, contains_none, contains_cases}
 
 -- ---- facts that are decided
 
@@ -165,7 +165,7 @@ flat f (suc n) = flat f n ++ f n
 
 of_flat : {A : Type 0} (f : ℕ → List A) (n : ℕ) (x : A) → Contains (flat f n) x → (k : ℕ) × (k < n) × Contains (f k) x
 unfolding flat
-of_flat f zero x c = absurd (Contains-nil x c)
+of_flat f zero x c = absurd (contains_none x c)
 of_flat f (suc n) x c =
     elim (Contains-append_cases (flat f n) (f n) x c) [
       | inl l ↦ let s : (k : ℕ) × (k < n) × Contains (f k) x = of_flat f n x l in (s.0, omega (arith, s.1), s.2)
@@ -188,12 +188,12 @@ if_pair g p (inr n) = []
 
 of_if_pair : (g : JoinGraph) (p x : Pair) (d : Decided (Pairs g p)) → Contains (if_pair g p d) x → (p ≡ x) × Pairs g p
 unfolding if_pair
-of_if_pair g p x (inl d) c = (elim (Contains-cases p [] x c) [ inl e ↦ e | inr none ↦ absurd (Contains-nil x none) ], d)
-of_if_pair g p x (inr n) c = absurd (Contains-nil x c)
+of_if_pair g p x (inl d) c = (elim (contains_cases p [] x c) [ inl e ↦ e | inr none ↦ absurd (contains_none x none) ], d)
+of_if_pair g p x (inr n) c = absurd (contains_none x c)
 
 in_if_pair : (g : JoinGraph) (p : Pair) (d : Decided (Pairs g p)) → Pairs g p → Contains (if_pair g p d) p
 unfolding if_pair
-in_if_pair g p (inl d) x = Contains-first p []
+in_if_pair g p (inl d) x = contains_head p []
 in_if_pair g p (inr n) x = absurd (n x)
 
 pairs_from : (g : JoinGraph) → IsGraph g → ℕ → ℕ → List Pair

@@ -76,27 +76,6 @@ plan_exists kind q s ok words c = plan_below kind q (suc s) s ok (omega arith) w
 
 -- ---- what the best word of a set says of the root of its plan
 
-single_of_least : (s r : ℕ) → size s ≡ 1 → IsLeast s r → s ≡ single r
-single_of_least s r one least =
-    let k : (k : ℕ) × (s ≡ single k) = size_one s one in
-    let e : k.0 ≡ r = grind (arith, sets, member-same k.1 r, least.0) in
-    k.1 ∙ ap single e
-
--- a relation is its own plan
-pub plan_single : (kind : ℕ) (q : JoinQuery) (s r w : ℕ) → Best kind q s w → size s ≡ 1 → IsLeast s r → Plan kind q s (leaf r)
-plan_single kind q s r w best one least = of_tree best.some.0 best.some.1 best.some.2 best.some.3
-  where
-    of_tree : (t : JoinTree) → Legal kind (graph_of q) t → set_of t ≡ s → HasWord kind q t w → Plan kind q s (leaf r)
-    of_tree (leaf k) m over has =
-        let e : s ≡ single r = single_of_least s r one least in
-        let is : w ≡ 3 * SPAN + single r = omega (arith, has.is, over, e) in
-        record {
-          legal = connected_single_known (graph_of q) s r (subst (Connected (graph_of q)) over (legal_connected kind (graph_of q) (leaf k) m)) e;
-          over = sym e;
-          best = subst (Best kind q (single r)) is (subst (λ x. Best kind q x w) e best);
-        }
-    of_tree (join op x y) m over has = absurd (omega (arith, join_size kind (graph_of q) op x y m, ap size over, one))
-
 -- the operator and the left set of the word, the other set, and the tree that they make of the plans of the two sets
 pub record IsPlanRoot (kind : ℕ) (q : JoinQuery) (s op left right : ℕ) : Type 0 where
   pub known : op < operators kind

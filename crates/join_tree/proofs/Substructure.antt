@@ -16,7 +16,7 @@ use Rattle.cost_model.proofs.WordLaws.{word-below, word_mono, word_cost-word, wo
 use Rattle.join_graph.specs.PairLists.{SideBuilt}
 use Rattle.join_tree.specs.Laws.{OptimalSubstructure, SidesHaveLeastWords}
 use Rattle.join_tree.specs.Trees.{JoinTree, leaf, join, set_of, cost, root_word, HasWord, Trees, Made, Least, LeastOfPair, LeastOverPairs, Builds}
-use Rattle.join_tree.proofs.TreeCosts.{rows_bounds}
+use Rattle.card_scaled.proofs.CardLaws.{rows_bounds}
 use Rattle.join_tree.proofs.TreeLaws.{connected_small, connected_size_some, connected_single_known, legal_connected, made_legal}
 use Rattle.join_tree.proofs.BestLaws.{least_single}
 use Rattle.join_tree.proofs.LeastOf.{least_of}

@@ -5,18 +5,14 @@ use Rattle.dpe_base.specs.Queries.{JoinQuery, relations, IsQuery}
 use Rattle.dpe_base.specs.Sets.{union, single, size}
 use Rattle.dpe_base.proofs.SizeLaws.{size-union, size-single, size_full}
 use Rattle.join_graph.specs.Graphs.{JoinGraph, Connected, graph_of}
-use Rattle.card_scaled.specs.Scaled.{rounded}
 use Rattle.card_scaled.specs.Cards.{rows}
+use Rattle.card_scaled.proofs.CardLaws.{rows_bounds}
 use Rattle.cost_model.specs.Costs.{operators, join_cost}
 use Rattle.cost_model.specs.Words.{word}
 use Rattle.cost_model.proofs.WordLaws.{word-below}
 use Rattle.cost_model.proofs.CostLaws.{join_cost_below}
 use Rattle.join_tree.specs.Trees.{JoinTree, leaf, join, set_of, cost, Legal, LeavesBelow}
 use Rattle.join_tree.proofs.TreeLaws.{legal_connected, legal_leaves}
-
-pub rows_bounds : (q : JoinQuery) (s : ℕ) → (1 ≤ rows q s) × (rows q s ≤ ROW_CAP)
-unfolding rows rounded
-rows_bounds q s = (omega arith, omega arith)
 
 pub capped_cost : (kind op l r o cost : ℕ) → cost ≡ join_cost kind op l r o → l ≤ ROW_CAP → r ≤ ROW_CAP → o ≤ ROW_CAP → cost < 2 ^ 90
 capped_cost kind op l r o cost e a b c = rw e (join_cost_below kind op l r o a b c)

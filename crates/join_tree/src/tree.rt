@@ -28,7 +28,7 @@ pub enum Tree {
 }
 
 // What the operator costs on two connected sets.
-#[tactic(auto, using(crate::proofs::TreeCosts::rows_bounds))]
+#[tactic(auto, using(card_scaled::proofs::CardLaws::rows_bounds))]
 fn operator_cost<M: CostModel>(
     model: &M,
     query: &Query,

@@ -11,7 +11,7 @@ use Rattle.memo_table.specs.declared.view.TreeSpace.{TreeSpace}
 use Rattle.memo_table.specs.Views.{EachOnceBelow}
 use Rattle.memo_table.specs.Rule.{TableState, memo_word, counter, Kept}
 use Rattle.memo_table.specs.Finishing.{IsLeastBound}
-use Rattle.pair_stream.proofs.Lists.{contains_none}
+use Rattle.dpe_base.proofs.Members.{contains_none}
 use Rattle.memo_table.proofs.Counting.{knowing}
 use Rattle.memo_table.proofs.Holding.{live_of, others_spent}
 use Rattle.memo_table.proofs.TreeWords.{made_below}

@@ -13,7 +13,7 @@ use Rattle.memo_table.specs.Views.{with_bound, with_offer}
 use Rattle.memo_table.specs.Making.{leaf_word, HasLeaves, IsOpen}
 use Rattle.memo_table.specs.Rule.{IsTreeSpace}
 use Rattle.memo_table.specs.Seats.{MemoTable, SeatView, Settled}
-use Rattle.pair_stream.proofs.Lists.{contains_head, contains_tail, contains_cases, contains_none}
+use Rattle.dpe_base.proofs.Members.{contains_head, contains_tail, contains_none, contains_cases}
 use Rattle.memo_table.proofs.TreeWords.{leaf_least}
 
 abbrev leaf_bound : ℕ → ℕ × ℕ

@@ -11,7 +11,7 @@ use Rattle.join_tree.specs.Trees.{Made}
 use Rattle.memo_table.specs.declared.view.View.{View}
 use Rattle.memo_table.specs.Views.{with_bound, with_offer}
 use Rattle.memo_table.specs.Seats.{IsMadeBound, BoundsAreMade, IsSeated}
-use Rattle.pair_stream.proofs.Lists.{contains_cases}
+use Rattle.dpe_base.proofs.Members.{contains_cases}
 
 abbrev TableSeat : Type 0
 TableSeat = Seat (Unit {0}) View

@@ -11,7 +11,7 @@ use Rattle.memo_table.specs.declared.view.View.{View}
 use Rattle.memo_table.specs.declared.view.TreeSpace.{TreeSpace}
 use Rattle.memo_table.specs.Views.{spent_view, kept_part, given_part, joined_view}
 use Rattle.memo_table.specs.Rule.{memo_word, counter, IsBound, IsLive, Kept}
-use Rattle.pair_stream.proofs.Lists.{contains_none}
+use Rattle.dpe_base.proofs.Members.{contains_none}
 use Rattle.memo_table.proofs.Counting.{at_inside, splitting, joining}
 use Rattle.memo_table.proofs.Holding.{Fits, live_of, each_set, held_set}
 

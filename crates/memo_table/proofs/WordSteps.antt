@@ -16,7 +16,7 @@ use Rattle.memo_table.specs.declared.view.TreeSpace.{TreeSpace}
 use Rattle.memo_table.specs.Views.{with_bound, with_offer}
 use Rattle.memo_table.specs.Rule.{TableState, memo_word, counter, Counts, IsEmptyOrMade, IsBound, IsLive, IsTreeSpace, AreMemoWords, Kept}
 use Rattle.memo_table.specs.Steps.{SeatState, FindsWord, load_tells, offer_tells}
-use Rattle.pair_stream.proofs.Lists.{contains_head, contains_tail, contains_cases}
+use Rattle.dpe_base.proofs.Members.{contains_head, contains_tail, contains_cases}
 use Rattle.memo_table.proofs.Counting.{staying}
 use Rattle.memo_table.proofs.Holding.{live_of, moved, turned}
 use Rattle.memo_table.proofs.MemoWords.{counter_beside, word_here, word_else}

@@ -9,7 +9,7 @@ use Rattle.join_graph.proofs.Edges.{neighbours_from, crossed_from}
 use Rattle.join_graph.proofs.GraphLaws.{crossed_more}
 use Rattle.pair_stream.specs.Subsets.{is_within, meets, subsets}
 use Rattle.pair_stream.specs.Connectivity.{adjacent_if_member, adjacent_to_members, neighbours, is_connected, is_crossed_at}
-use Rattle.pair_stream.proofs.Lists.{contains_none, contains_head, contains_tail, contains_cases}
+use Rattle.dpe_base.proofs.Members.{contains_head, contains_tail, contains_none, contains_cases}
 use Rattle.pair_stream.proofs.SubsetLaws.{is_within_true, meets_true, subsets_has, positive}
 
 -- ---- what is joined to a set

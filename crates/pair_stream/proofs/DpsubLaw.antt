@@ -12,7 +12,8 @@ use Rattle.pair_stream.specs.Subsets.{least, subsets}
 use Rattle.pair_stream.specs.Connectivity.{is_connected}
 use Rattle.pair_stream.specs.Orders.{BuildsSide, Ordered, Complete}
 use Rattle.pair_stream.specs.Dpsub.{is_split, splits_of, seq_dpsub}
-use Rattle.pair_stream.proofs.Lists.{contains_none, contains_map, contains_from_map, contains_filter, contains_from_filter, passes_from_filter, contains_flat_map, contains_from_flat_map, contains_range, pairs_nil, pairs_map, pairs_filter, pairs_flat_map, pairs_range}
+use Rattle.dpe_base.proofs.Members.{contains_none}
+use Rattle.pair_stream.proofs.Lists.{contains_map, contains_from_map, contains_filter, contains_from_filter, passes_from_filter, contains_flat_map, contains_from_flat_map, contains_range, pairs_nil, pairs_map, pairs_filter, pairs_flat_map, pairs_range}
 use Rattle.pair_stream.proofs.SubsetLaws.{subsets_has, subsets_ascend, least_is, positive}
 use Rattle.pair_stream.proofs.ConnectivityLaws.{is_connected_true}
 use Rattle.pair_stream.proofs.OrderLaws.{MayPrecede, builds_itself, complete_from, ordered_from}

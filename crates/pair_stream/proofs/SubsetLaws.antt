@@ -9,7 +9,8 @@ use Rattle.dpe_base.proofs.SetLaws.{member-above, disjoint_by_inter, within_by_i
 use Rattle.dpe_base.proofs.NextSubset.{within_le}
 use Rattle.dpe_base.proofs.SizeLaws.{some_member, within_span}
 use Rattle.pair_stream.specs.Subsets.{is_within, meets, subsets_after, least, descending}
-use Rattle.pair_stream.proofs.Lists.{contains_none, contains_head, contains_tail, contains_cases, contains_filter, contains_from_filter, passes_from_filter, contains_range, contains_from_range, pairs_nil, pairs_cons, pairs_filter, pairs_range}
+use Rattle.dpe_base.proofs.Members.{contains_head, contains_tail, contains_none, contains_cases}
+use Rattle.pair_stream.proofs.Lists.{contains_filter, contains_from_filter, passes_from_filter, contains_range, contains_from_range, pairs_nil, pairs_cons, pairs_filter, pairs_range}
 
 pub is_within_true : (a b : ℕ) → (is_within a b ≡ true) ↔ Within a b
 is_within_true a b =

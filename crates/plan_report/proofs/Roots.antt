@@ -55,8 +55,3 @@ plan_alone kind q s r e c = subst (λ u. Plan kind q u (leaf r)) (sym e) (plan_l
   where
     known : (n s r : ℕ) → s ≡ single r → Within s (full n) → r < n
     known n s r e w = grind (arith, sets, member-same e r)
-
--- a plan has a word
-pub plan_word : (kind : ℕ) (q : JoinQuery) (s : ℕ) (t : JoinTree) → IsQuery q → Plan kind q s t → cost kind q t < COST_LIMIT
-plan_word kind q s (leaf r) ok plan = omega arith
-plan_word kind q s (join op l r) ok plan = best_below kind q (join op l r) ok plan.legal plan.best.0

@@ -7,8 +7,8 @@ use Rattle.query_json.specs.declared.file.Table.{Table}
 use Rattle.query_json.specs.declared.file.RelationItem.{RelationItem}
 use Rattle.query_json.specs.Names.{distinct_after, distinct_names}
 use Rattle.query_json.specs.Entries.{table_names}
-use Rattle.query_json.specs.Entries.{or_duplicate as or_duplicate_table}
-use Rattle.query_json.specs.Queries.{aliases_of, or_duplicate}
+use Rattle.query_json.specs.Entries.{or_table_twice}
+use Rattle.query_json.specs.Queries.{aliases_of, or_alias_twice}
 
 after_labels : {T : Type 0} (label : T → List ℕ) (met names : List (List ℕ)) (ts : List T) → distinct_after label met ts ≡ Ok names → names ≡ met ++ map label ts
 after_labels label met names [] e = let same : met ≡ names = cc in sym same ∙ sym (append-nil met)
@@ -24,11 +24,11 @@ after_labels label met names (t ∷ ts) e =
 pub distinct_labels : {T : Type 0} (label : T → List ℕ) (names : List (List ℕ)) (ts : List T) → distinct_names label ts ≡ Ok names → names ≡ map label ts
 distinct_labels label names ts e = after_labels label [] names ts e
 
-not_table : (r : Result (List (List ℕ)) (List ℕ)) (names : List (List ℕ)) → or_duplicate_table r ≡ Ok names → r ≡ Ok names
+not_table : (r : Result (List (List ℕ)) (List ℕ)) (names : List (List ℕ)) → or_table_twice r ≡ Ok names → r ≡ Ok names
 not_table (Ok x) names e = let same : x ≡ names = cc in ap Ok same
 not_table (Err x) names e = absurd cc
 
-not_alias : (r : Result (List (List ℕ)) (List ℕ)) (names : List (List ℕ)) → or_duplicate r ≡ Ok names → r ≡ Ok names
+not_alias : (r : Result (List (List ℕ)) (List ℕ)) (names : List (List ℕ)) → or_alias_twice r ≡ Ok names → r ≡ Ok names
 not_alias (Ok x) names e = let same : x ≡ names = cc in ap Ok same
 not_alias (Err x) names e = absurd cc
 

@@ -62,38 +62,6 @@ read_made text j e = ap (option_and_then of_json) (sym e) ∙ made j
 
 -- ---- looking in
 
-no_text : (o : Option Num) → as_str (number_data o) ≡ None
-no_text None = refl
-no_text (Some n) = refl
-
-pub same_text : (j : json.Json) → look.as_str j ≡ as_str (data_of j)
-same_text json.null = refl
-same_text (json.boolean b) = refl
-same_text (json.number s) = sym (no_text (number_of s))
-same_text (json.string s) = refl
-same_text (json.array js) = refl
-same_text (json.object ms) = refl
-
-no_null : (o : Option Num) → is_some (as_null (number_data o)) ≡ false
-no_null None = refl
-no_null (Some n) = refl
-
-pub same_null : (j : json.Json) → look.is_null j ≡ is_some (as_null (data_of j))
-same_null json.null = refl
-same_null (json.boolean b) = refl
-same_null (json.number s) = sym (no_null (number_of s))
-same_null (json.string s) = refl
-same_null (json.array js) = refl
-same_null (json.object ms) = refl
-
-pub no_array : (o : Option Num) → as_array (number_data o) ≡ None
-no_array None = refl
-no_array (Some n) = refl
-
-pub no_object : (o : Option Num) → as_object (number_data o) ≡ None
-no_object None = refl
-no_object (Some n) = refl
-
 no_member : (q : List ℕ) (o : Option Num) → get q (number_data o) ≡ None
 no_member q None = refl
 no_member q (Some n) = refl

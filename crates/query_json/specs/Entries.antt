@@ -19,12 +19,12 @@ use Rattle.query_json.specs.Walk.{file_of}
 abbrev pub counted : File → Result (Unit {0}) FileFault
 counted f = if nat_lt TABLES_MAX (length f.tables) then Err TooManyTables else (if nat_lt QUERIES_MAX (length f.queries) then Err TooManyQueries else Ok tt)
 
-abbrev pub or_duplicate : Result (List (List ℕ)) (List ℕ) → Result (List (List ℕ)) FileFault
-or_duplicate (Ok names) = Ok names
-or_duplicate (Err name) = Err (DuplicateTable name)
+abbrev pub or_table_twice : Result (List (List ℕ)) (List ℕ) → Result (List (List ℕ)) FileFault
+or_table_twice (Ok names) = Ok names
+or_table_twice (Err name) = Err (DuplicateTable name)
 
 abbrev pub table_names : List Table → Result (List (List ℕ)) FileFault
-table_names ts = or_duplicate (distinct_names (λ t. t.name) ts)
+table_names ts = or_table_twice (distinct_names (λ t. t.name) ts)
 
 -- the tables of a file, of which no two have one name
 abbrev pub tables_of : List Table → Result (List Table) FileFault

@@ -40,12 +40,12 @@ found refusal (Some x) = Ok x
 abbrev pub sized : List RelationItem → Result (Unit {0}) QueryRefusal
 sized rs = if length rs == 0 then Err NoRelations else (if nat_lt N_MAX (length rs) then Err (TooManyRelations (length rs)) else Ok tt)
 
-abbrev pub or_duplicate : Result (List (List ℕ)) (List ℕ) → Result (List (List ℕ)) QueryRefusal
-or_duplicate (Ok names) = Ok names
-or_duplicate (Err name) = Err (DuplicateAlias name)
+abbrev pub or_alias_twice : Result (List (List ℕ)) (List ℕ) → Result (List (List ℕ)) QueryRefusal
+or_alias_twice (Ok names) = Ok names
+or_alias_twice (Err name) = Err (DuplicateAlias name)
 
 abbrev pub aliases_of : List RelationItem → Result (List (List ℕ)) QueryRefusal
-aliases_of rs = or_duplicate (distinct_names (λ r. r.alias) rs)
+aliases_of rs = or_alias_twice (distinct_names (λ r. r.alias) rs)
 
 abbrev pub table_named : List Table → List ℕ → Option Table
 table_named tables name = find (λ t. bytes_eq name t.name) tables

@@ -5,7 +5,7 @@ use Rattle.std.proofs.lemmas.Bool.{eqb-false}
 use Rattle.workload_gen.specs.declared.sample.Table.{Table}
 use Rattle.workload_gen.specs.declared.sample.Relation.{Relation}
 use Rattle.workload_gen.specs.declared.sample.Join.{Join}
-use Rattle.workload_gen.specs.Draws.{State, Drawing, draw_each, extra_join, extra_joins, joins_tried, pick, give, pick_from, present, ◌>>=◌, query, relation, sample, table, tree_join}
+use Rattle.workload_gen.specs.Draws.{State, Drawing, draw_each, extra_join, extra_joins, joins_tried, pick, give, pick_from, those_drawn, ◌>>=◌, query, relation, sample, table, tree_join}
 use Rattle.workload_gen.specs.Sample.{Sample, SampleQuery}
 
 -- ---- lists that are drawn
@@ -118,12 +118,12 @@ extra_join_is n some s =
     let right = pick n left.1 in
     extra_by n left.0 right.0 (eqb left.0 right.0) refl (omega arith) (omega arith) right.1
 
-present_each : (n : ℕ) (os : List (Option Join)) → Each (IsExtra n) os → Each (IsJoin n) (present os)
+present_each : (n : ℕ) (os : List (Option Join)) → Each (IsExtra n) os → Each (IsJoin n) (those_drawn os)
 present_each n [] h = tt
 present_each n (None ∷ os) h = present_each n os h.1
 present_each n (Some x ∷ os) h = (h.0, present_each n os h.1)
 
-present_few : {A : Type 0} (os : List (Option A)) → length (present os) ≤ length os
+present_few : {A : Type 0} (os : List (Option A)) → length (those_drawn os) ≤ length os
 present_few [] = omega arith
 present_few (None ∷ os) = let few = present_few os in omega arith
 present_few (Some x ∷ os) = let few = present_few os in omega arith

@@ -71,14 +71,14 @@ extra_join n = do
     one_in ← pick_from 1 1000
     give (Some (record { left = left; right = right; one_in = Some one_in }))
 
-abbrev pub present : {A : Type 0} → List (Option A) → List A
-present xs = filter_map (λ x. x) xs
+abbrev pub those_drawn : {A : Type 0} → List (Option A) → List A
+those_drawn xs = filter_map (λ x. x) xs
 
 -- what `count` tries at a further join give
 abbrev pub joins_tried : ℕ → ℕ → Drawing (List Join)
 joins_tried n count = do
   joins ← draw_each (λ k. extra_join n) 0 count
-  give (present joins)
+  give (those_drawn joins)
 
 unfoldable pub extra_joins : ℕ → Drawing (List Join)
 extra_joins n = do

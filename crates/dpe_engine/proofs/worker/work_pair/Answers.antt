@@ -3,7 +3,7 @@ use Rattle.dpe_base.specs.declared.TheConstants.{EMPTY}
 use Rattle.dpe_base.specs.Sets.{union}
 use Rattle.card_scaled.specs.Cards.{rows}
 use Rattle.join_tree.specs.Trees.{Made, Least, pair_word}
-use Rattle.join_tree.proofs.TreeCosts.{rows_bounds}
+use Rattle.card_scaled.proofs.CardLaws.{rows_bounds}
 use Rattle.join_tree.proofs.BuiltLists.{built_lists_are_workable}
 use Rattle.memo_table.specs.declared.view.View.{View}
 use Rattle.memo_table.specs.Views.{with_offer}

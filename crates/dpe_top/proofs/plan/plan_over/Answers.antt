@@ -1,6 +1,6 @@
 use Rattle.std.proofs.Common.{◌≡◌, ◌∙◌}
 use Rattle.join_graph.specs.Graphs.{graph_of}
-use Rattle.dpe_top.specs.Enumerations.{probes_of}
+use Rattle.dpe_top.specs.Enumerations.{total_probes}
 use Rattle.dpe_top.proofs.BestWords.{run_best, run_plans}
 use Rattle.dpe_top.proofs.plan.plan_over.Goals as goal
 
@@ -16,7 +16,7 @@ build-requires-clause-best g c κs within =
 pub returns : goal.returns
 returns g c =
     let laws = g.met.P.PairStream g.world.𝓛 g.world.𝓜 g.world.𝓡 ((λ s x. x), (λ x. x), (λ x. x), λ x. x) in
-    let looked : c.probes.result ≡ probes_of c.args.settings.now.enumerator (graph_of c.args.query.now) =
+    let looked : c.probes.result ≡ total_probes c.args.settings.now.enumerator (graph_of c.args.query.now) =
     c.probes.ensures ∙ (laws.at_end c.run-solved.result.1 c.run-solved.ensures.ended).1 ∙ c.run-solved.ensures.total ∙ c.requires.total in
     run_plans g.M.CostModel.KIND c.args.settings.now c.args.query.now (g.P.PairStream.left c.args.stream) c.in_ok-engine.engine
     c.run-solved.result.0.pairs c.run-solved.result.0.buffers c.run-solved.result.0.rounds c.probes.result c.n.result c.full-all.result c.in_ok-tree.tree c.stats_in-stats.result

@@ -2,7 +2,8 @@ use Rattle.std.proofs.Common.{◌≤◌, arith}
 use Rattle.dpe_base.specs.declared.TheConstants.{ROW_CAP}
 use Rattle.dpe_base.proofs.SetLaws.{sets}
 use Rattle.dpe_base.proofs.SizeLaws.{union_some}
-use Rattle.join_tree.proofs.TreeCosts.{rows_bounds, capped_cost}
+use Rattle.card_scaled.proofs.CardLaws.{rows_bounds}
+use Rattle.join_tree.proofs.TreeCosts.{capped_cost}
 use Rattle.join_tree.proofs.tree.operator_cost.Goals as goal
 
 pub rows_once-requires-clause-some : goal.rows_once-requires-clause-some

@@ -1,7 +1,7 @@
 use Rattle.std.proofs.Common.{◌≡◌, Contains, inr, sym, subst, ap, ◌∙◌}
 use Rattle.join_graph.specs.Graphs.{JoinGraph, Pairs, graph_of}
 use Rattle.memo_table.specs.declared.view.View.{View}
-use Rattle.pair_stream.proofs.Lists.{contains_head}
+use Rattle.dpe_base.proofs.Members.{contains_head}
 use Rattle.memo_table.proofs.TwoRelations.{two_relations, is_two, both_within, pair_listed, made_at, first_left, second_left}
 use Rattle.memo_table.proofs.tests.a_greater_word_lowers_nothing.Goals as goal
 

@@ -1,7 +1,7 @@
 use Rattle.std.proofs.Common.{arith}
 use Rattle.dpe_base.proofs.SetLaws.{sets}
 use Rattle.dpe_base.proofs.SizeLaws.{union_some}
-use Rattle.join_tree.proofs.TreeCosts.{rows_bounds}
+use Rattle.card_scaled.proofs.CardLaws.{rows_bounds}
 use Rattle.plan_report.proofs.numbers.of_join.Goals as goal
 
 pub rows_once-rows-requires-clause-some : goal.rows_once-rows-requires-clause-some

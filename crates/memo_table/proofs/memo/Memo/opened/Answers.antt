@@ -3,7 +3,7 @@ use Rattle.std.proofs.Math.Pow.{pow_mono}
 use Rattle.dpe_base.specs.declared.TheConstants.{N_MAX}
 use Rattle.dpe_base.specs.Queries.{relations}
 use Rattle.memo_table.specs.Seats.{TableId}
-use Rattle.pair_stream.proofs.Lists.{contains_none}
+use Rattle.dpe_base.proofs.Members.{contains_none}
 use Rattle.memo_table.proofs.MemoWords.{opening_width}
 use Rattle.memo_table.proofs.memo.Memo.opened.Goals as goal
 
