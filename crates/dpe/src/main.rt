@@ -14,7 +14,7 @@ fn main(rt: HostRuntime) -> ExitCode {
     let mut words = match env::args(&rt) {
         Ok(words) => words,
         Err(error) if error.kind() == ErrorKind::OutOfMemory => {
-            return ExitCode::from(Status::NoMemory as u8);
+            return ExitCode::from(Status::NoMemory.number());
         }
         // Words that are no text are no command line.
         Err(_) => {
@@ -22,12 +22,12 @@ fn main(rt: HostRuntime) -> ExitCode {
                 Ok(()) => Status::Usage,
                 Err(_) => Status::WriteFault,
             };
-            return ExitCode::from(status as u8);
+            return ExitCode::from(status.number());
         }
     };
     let _program = words.next();
     let Ok(words) = words.collect::<Vec<String>>(alloc) else {
-        return ExitCode::from(Status::NoMemory as u8);
+        return ExitCode::from(Status::NoMemory.number());
     };
     let status = dpe(
         &rt,
@@ -37,5 +37,5 @@ fn main(rt: HostRuntime) -> ExitCode {
         &mut sink,
         &OpenGate,
     );
-    ExitCode::from(status as u8)
+    ExitCode::from(status.number())
 }

@@ -22,6 +22,7 @@ use Rattle.workload_gen.specs.Values.{workload_of}
 use Rattle.query_json.specs.Sound.{IsEntrySound, IsPartSound}
 use Rattle.dpe_top.specs.declared.summary.Share.{Share}
 use Rattle.dpe_top.specs.Laws.{OneCount, OneSample}
+use Rattle.dpe_top.proofs.Accepted.{sound_entries}
 use Rattle.dpe_top.specs.Summary.{IsShare, AreShares, IsSummary, planned_queries, totals_of, summary_line}
 
 pair_eq : Pair → Pair → Bool
@@ -103,5 +104,5 @@ same_entries read xs ys a b = cc
 
 pub one_sample : OneSample
 one_sample kind number first second a b =
-    one_summary kind number a.0 first second a.2
-    a.3 (subst (λ (es : List Entry). IsSummary kind number es second) (same_entries (entries_of (workload_of number)) a.0 b.0 a.1 b.1) b.3)
+    one_summary kind number a.0 first second (sound_entries (workload_of number) a.0 a.1)
+    a.2 (subst (λ (es : List Entry). IsSummary kind number es second) (same_entries (entries_of (workload_of number)) a.0 b.0 a.1 b.1) b.2)

@@ -1,15 +1,13 @@
 -- Sums that grow query by query.
 use Rattle.std.proofs.Common.{◌≡◌, ◌+◌, ◌*◌, ◌-◌, ◌^◌, ◌<◌, ◌≤◌, ℕ, refl, ◌∙◌, ap, arith, List, [], ◌∷◌, ◌++◌, take, length, Some, None}
 use Rattle.std.proofs.lemmas.List.{length-append, append-nil}
-use Rattle.std.proofs.lemmas.List.Elements.{filter_map-append, All-nil, All-push}
+use Rattle.std.proofs.lemmas.List.Elements.{filter_map-append}
 use Rattle.std.proofs.lemmas.List.Sums.{sum_by_push}
-use Rattle.std.specs.Prelude.{All}
 use Rattle.std.specs.List.{slice_get}
 use Rattle.dpe_base.specs.Queries.{JoinQuery, relations}
 use Rattle.query_json.specs.declared.entry.Entry.{Entry}
 use Rattle.query_json.specs.declared.entry.Named.{Named}
 use Rattle.query_json.specs.declared.entry.Part.TheVariants.{Accepted}
-use Rattle.query_json.specs.Sound.{IsEntrySound}
 use Rattle.dpe_top.specs.declared.summary.Share.{Share}
 use Rattle.dpe_top.specs.declared.summary.Totals.{Totals}
 use Rattle.dpe_top.specs.Summary.{IsShare, AreShares, AreTotals, planned_queries, query_in, totals_of}
@@ -19,12 +17,7 @@ use Rattle.dpe_top.proofs.Reporting.{take_next}
 -- the sums over the first i entries
 pub record HasSummed (kind : ℕ) (entries : List Entry) (i : ℕ) (t : Totals) : Type 0 where
   pub totals : AreTotals kind (take i entries) t
-  pub sound : All IsEntrySound (take i entries)
   pub small : AreAtMost (2 ^ 64 * i) t
-
-sound_more : (entries : List Entry) (i : ℕ) (entry : Entry) → slice_get entries i ≡ Some entry → All IsEntrySound (take i entries) → IsEntrySound entry
-    → All IsEntrySound (take (i + 1) entries)
-sound_more entries i entry at sound more = rw (take_next entries i entry at) (All-push IsEntrySound (take i entries) entry sound more)
 
 shares_more : (kind : ℕ) (queries : List JoinQuery) (shares : List Share) (q : JoinQuery) (share : Share)
     → AreShares kind queries shares → IsShare kind q share → AreShares kind (queries ++ (q ∷ [])) (shares ++ (share ∷ []))
@@ -59,29 +52,27 @@ small_more i a b small fits = omega (arith)
 
 -- one query more
 pub summed_more : (kind : ℕ) (entries : List Entry) (i : ℕ) (old new : Totals) (entry : Entry) (named : Named) (share : Share)
-    → HasSummed kind entries i old → slice_get entries i ≡ Some entry → IsEntrySound entry → entry.part ≡ Accepted named → IsShare kind named.query share
+    → HasSummed kind entries i old → slice_get entries i ≡ Some entry → entry.part ≡ Accepted named → IsShare kind named.query share
     → new ≡ with_query old named.query share → AreAtMost (2 ^ 64 * (i + 1)) new → HasSummed kind entries (i + 1) new
-summed_more kind entries i old new entry named share has at sound part is sums small = record {
+summed_more kind entries i old new entry named share has at part is sums small = record {
   totals = (
     has.totals.0 ++ (share ∷ []),
     rw (queries_more entries i entry named at part) (shares_more kind (planned_queries (take i entries)) has.totals.0 named.query share has.totals.1 is),
     rw (queries_more entries i entry named at part)
         (sums ∙ ap (λ (x : Totals). with_query x named.query share) has.totals.2 ∙ totals_more (planned_queries (take i entries)) has.totals.0 named.query share),
   );
-  sound = sound_more entries i entry at has.sound sound;
   small = small;
 }
 
 -- an entry that is refused
 pub summed_same : (kind : ℕ) (entries : List Entry) (i : ℕ) (t : Totals) (entry : Entry)
-    → HasSummed kind entries i t → slice_get entries i ≡ Some entry → IsEntrySound entry → query_in entry.part ≡ None → HasSummed kind entries (i + 1) t
-summed_same kind entries i t entry has at sound none = record {
+    → HasSummed kind entries i t → slice_get entries i ≡ Some entry → query_in entry.part ≡ None → HasSummed kind entries (i + 1) t
+summed_same kind entries i t entry has at none = record {
   totals = (
     has.totals.0,
     rw (queries_same entries i entry at none) has.totals.1,
     rw (queries_same entries i entry at none) has.totals.2,
   );
-  sound = sound_more entries i entry at has.sound sound;
   small = record {
     queries = omega (arith, has.small.queries);
     relations = omega (arith, has.small.relations);

@@ -4,6 +4,7 @@ pub mod Totals
 pub mod Summary
 pub mod Reports
 pub mod Lines
+pub mod Statuses
 pub mod Reply
 pub mod Replies
 pub mod Laws

@@ -11,7 +11,6 @@ use Rattle.dpe_words.specs.declared.choices.Mode.TheVariants.{Sample}
 use Rattle.dpe_words.specs.declared.choices.Settings.{Settings}
 use Rattle.dpe_words.specs.Line.{settings_of}
 use Rattle.dpe_words.specs.Usage.{usage_line}
-use Rattle.dpe_top.specs.declared.TheConstants.{INPUT_MAX}
 use Rattle.dpe_top.specs.declared.status.Status.{Status}
 use Rattle.dpe_top.specs.declared.status.Status.TheVariants.{Done, SomeRefused, Usage, Input, ReadFault, WriteFault, NoMemory}
 use Rattle.dpe_top.specs.Lines.{fault_line, too_long_line}
@@ -28,9 +27,13 @@ abbrev pub answer_of_file : Settings → Result (List Entry) FileFault → Answe
 answer_of_file settings (Ok entries) = report settings entries
 answer_of_file settings (Err fault) = line Input (fault_line fault)
 
+-- the most bytes of a workload
+abbrev pub most_bytes : ℕ
+most_bytes = 8388608
+
 abbrev pub answer_of_bytes : Settings → List ℕ → Answer
 answer_of_bytes settings bytes =
-    if nat_lt INPUT_MAX (length bytes) then line Input too_long_line else answer_of_file settings (entries_of bytes)
+    if nat_lt most_bytes (length bytes) then line Input too_long_line else answer_of_file settings (entries_of bytes)
 
 -- what is to be done: to answer at once, or to read a workload and plan it
 pub data Task : Type 0 where
@@ -105,19 +108,24 @@ IsReported ReadFault = ⊥
 IsReported WriteFault = ⊥
 IsReported NoMemory = ⊥
 
--- an end without a whole answer: want of memory is free, a fault of reading has its cause
-abbrev pub MayEnd : Status → ℕ → ℕ → Bool → Type 0
-MayEnd Done before now sure = ⊥
-MayEnd SomeRefused before now sure = ⊥
-MayEnd Usage before now sure = ⊥
-MayEnd Input before now sure = ⊥
-MayEnd ReadFault before now sure = Rose before now × (sure ≡ false)
-MayEnd WriteFault before now sure = ⊥
-MayEnd NoMemory before now sure = Unit {0}
+-- no more bytes than the limit were taken
+abbrev pub IsWithin : ℕ → Option (List ℕ) → Option (List ℕ) → Type 0
+IsWithin limit before now = (taken : List ℕ) × Consumes before now taken × (length taken ≤ limit)
+
+-- an end without a whole answer, by the source's count of faults, whether it was sure, and its bytes: a fault of reading
+-- has its cause, and want of memory is free but hides no fault
+abbrev pub MayEnd : Status → ℕ → ℕ → Bool → Option (List ℕ) → Option (List ℕ) → Type 0
+MayEnd Done was is sure before now = ⊥
+MayEnd SomeRefused was is sure before now = ⊥
+MayEnd Usage was is sure before now = ⊥
+MayEnd Input was is sure before now = ⊥
+MayEnd ReadFault was is sure before now = Rose was is × (sure ≡ false) × IsWithin most_bytes before now
+MayEnd WriteFault was is sure before now = ⊥
+MayEnd NoMemory was is sure before now = (is ≡ was) × IsWithin (most_bytes + 1) before now
 
 -- bytes were taken: all that there were, and no more than the limit
 abbrev pub IsRead : ℕ → Option (List ℕ) → Option (List ℕ) → Type 0
-IsRead limit before now = IsAtEnd now × ((taken : List ℕ) × Consumes before now taken × (length taken ≤ limit))
+IsRead limit before now = IsAtEnd now × IsWithin limit before now
 
 -- or one more than the limit
 abbrev pub IsTooLong : ℕ → Option (List ℕ) → Option (List ℕ) → Type 0
@@ -125,10 +133,10 @@ IsTooLong limit before now = (taken : List ℕ) × Consumes before now taken × 
 
 -- what an answer of this status took from the source, where the words are a command line
 abbrev pub Took : Status → Option (List ℕ) → Option (List ℕ) → Type 0
-Took Done before now = IsRead INPUT_MAX before now
-Took SomeRefused before now = IsRead INPUT_MAX before now
+Took Done before now = IsRead most_bytes before now
+Took SomeRefused before now = IsRead most_bytes before now
 Took Usage before now = ⊥
-Took Input before now = IsRead INPUT_MAX before now ⊎ IsTooLong INPUT_MAX before now
+Took Input before now = IsRead most_bytes before now ⊎ IsTooLong most_bytes before now
 Took ReadFault before now = ⊥
 Took WriteFault before now = ⊥
 Took NoMemory before now = ⊥
@@ -136,5 +144,5 @@ Took NoMemory before now = ⊥
 -- the words ask for a workload, and the bytes are one
 pub record IsWellFormed (words : List (List ℕ)) (bytes : List ℕ) : Type 0 where
   pub asked : Reads (task words)
-  pub short : length bytes ≤ INPUT_MAX
+  pub short : length bytes ≤ most_bytes
   pub workload : IsOk (entries_of bytes)

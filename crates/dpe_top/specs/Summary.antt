@@ -1,5 +1,5 @@
 -- The summary of a sample workload: sums over its planned queries.
-use Rattle.std.specs.Prelude.{◌≡◌, ℕ, List, [], ◌∷◌, ◌++◌, length, All, Option, Some, None, Ok, codes, decimal}
+use Rattle.std.specs.Prelude.{◌≡◌, ℕ, List, [], ◌∷◌, ◌++◌, length, Option, Some, None, Ok, codes, decimal}
 use Rattle.std.specs.List.{filter_map, sum_by}
 use Rattle.dpe_base.specs.declared.pair.Pair.{Pair}
 use Rattle.dpe_base.specs.Queries.{JoinQuery, relations}
@@ -11,7 +11,6 @@ use Rattle.query_json.specs.declared.entry.Entry.{Entry}
 use Rattle.query_json.specs.declared.entry.Part.{Part}
 use Rattle.query_json.specs.declared.entry.Part.TheVariants.{Accepted, Refused}
 use Rattle.query_json.specs.Entries.{entries_of}
-use Rattle.query_json.specs.Sound.{IsEntrySound}
 use Rattle.plan_report.specs.Texts.{newline}
 use Rattle.workload_gen.specs.Values.{workload_of}
 use Rattle.dpe_top.specs.declared.summary.Share.{Share}
@@ -61,7 +60,7 @@ AreTotals kind entries t =
 abbrev pub IsSummary : ℕ → ℕ → List Entry → List ℕ → Type 0
 IsSummary kind number entries text = (t : Totals) × AreTotals kind entries t × (text ≡ summary_line number t)
 
--- the text is the summary of the workload that the number gives, whose queries are connected and within the limits
+-- the text is the summary of the workload that the number gives
 abbrev pub IsSample : ℕ → ℕ → List ℕ → Type 0
 IsSample kind number text =
-    (entries : List Entry) × (entries_of (workload_of number) ≡ Ok entries) × All IsEntrySound entries × IsSummary kind number entries text
+    (entries : List Entry) × (entries_of (workload_of number) ≡ Ok entries) × IsSummary kind number entries text

@@ -1,11 +1,11 @@
 //! The top call.
-ghost use Rattle.std.specs.Prelude.{◌≡◌, ◌<◌, ◌≤◌, ◌⊎◌, ℕ, List, false, length, take, Err, IfOk, IfErr, IfSome};
+ghost use Rattle.std.specs.Prelude.{◌≡◌, ◌+◌, ◌<◌, ◌≤◌, ◌⊎◌, ℕ, List, false, length, take, Err, IfOk, IfErr, IfSome};
 ghost use Rattle.std.specs.Io.KnownBytes.{Appends, Keeps};
 ghost use Rattle.io_edge.specs.Causes.{Rose};
 ghost use Rattle.dpe_words.specs.Line.{AreInRange, IsLine, texts_of};
 ghost use Rattle.dpe_top.specs.declared.status.Status.{Status};
 ghost use Rattle.dpe_top.specs.Replies.{Replies};
-ghost use Rattle.dpe_top.specs.Reply.{AtOnce, IsAnswered, IsReported, IsText, IsWellFormed, IsWhole, MayEnd, Reads, Took, answer, answer_of_bytes, status_of, summary, task};
+ghost use Rattle.dpe_top.specs.Reply.{AtOnce, IsAnswered, IsReported, IsText, IsWellFormed, IsWhole, IsWithin, MayEnd, Reads, Took, answer, answer_of_bytes, most_bytes, status_of, summary, task};
 
 use crate::INPUT_MAX;
 use crate::lines::{fault_line, too_long_line};
@@ -29,7 +29,7 @@ fn reply_to_bytes<R: Threads + Sync, G: Gate>(
     gate: &G,
 ) -> Result<Reply, AllocError>
     requires ranges { AreInRange settings.now }
-    requires short { length bytes.now ≤ INPUT_MAX }
+    requires short { length bytes.now ≤ most_bytes }
     ensures said { IfOk result (Replies (answer_of_bytes settings.now bytes.now)) }
     ensures whole { IfOk result (λ r. IsWhole r.status) }
 {
@@ -62,7 +62,8 @@ fn read_reply<R: Threads + Sync, S: Source, G: Gate>(
     ensures said { IfOk result (λ r. IfSome (S.left source.old) (λ bytes. Replies (answer_of_bytes settings.now bytes) r)) }
     ensures whole { IfOk result (λ r. IsWhole r.status) }
     ensures took { IfOk result (λ r. Took r.status (S.left source.old) (S.left source.new)) }
-    ensures err { IfErr result (λ e. MayEnd e (S.faults source.old) (S.faults source.new) (S.sure source.old)) }
+    ensures kept { IfOk result (λ _. S.faults source.new ≡ S.faults source.old) }
+    ensures err { IfErr result (λ e. MayEnd e (S.faults source.old) (S.faults source.new) (S.sure source.old) (S.left source.old) (S.left source.new)) }
 {
     match read_all(alloc, source, INPUT_MAX) {
         Ok(bytes) => Ok(reply_to_bytes(rt, alloc, settings, &bytes, gate)?),
@@ -105,7 +106,8 @@ fn reply_to<R: Threads + Sync, S: Source, G: Gate>(
     ensures whole { IfOk result (λ r. IsWhole r.status) }
     ensures unread { AtOnce (task (texts_of words.now)) (λ said. (source.new ≡ source.old) × IfOk result (Replies said)) }
     ensures read { Reads (task (texts_of words.now)) → IfOk result (λ r. Took r.status (S.left source.old) (S.left source.new)) }
-    ensures err { IfErr result (λ e. MayEnd e (S.faults source.old) (S.faults source.new) (S.sure source.old)) }
+    ensures kept { IfOk result (λ _. S.faults source.new ≡ S.faults source.old) }
+    ensures err { IfErr result (λ e. MayEnd e (S.faults source.old) (S.faults source.new) (S.sure source.old) (S.left source.old) (S.left source.new)) }
     ensures usage { IfOk result (λ r. r.status ≡ Status.Usage → IsLine (texts_of words.now) → ⊥) }
     ensures fault { result ≡ Err Status.ReadFault → Reads (task (texts_of words.now)) }
     ensures complete { IfOk result (λ r. IfSome (S.left source.old) (λ bytes. IsWellFormed (texts_of words.now) bytes → IsReported r.status)) }
@@ -147,7 +149,8 @@ pub fn dpe<R: Threads + Sync, S: Source, K: Sink, G: Gate>(
     // Each other answer has its cause.
     ensures usage { result ≡ Status.Usage → IsLine (texts_of words.now) → ⊥ }
     ensures read_fault { result ≡ Status.ReadFault → Reads (task (texts_of words.now))
-        × Rose (S.faults source.old) (S.faults source.new) × (S.sure source.old ≡ false) × Keeps (K.held sink.old) (K.held sink.new) }
+        × Rose (S.faults source.old) (S.faults source.new) × (S.sure source.old ≡ false)
+        × IsWithin most_bytes (S.left source.old) (S.left source.new) × Keeps (K.held sink.old) (K.held sink.new) }
     ensures write_fault { result ≡ Status.WriteFault → Rose (K.faults sink.old) (K.faults sink.new)
         × ((text : List ℕ) × AtOnce (task (texts_of words.now)) (λ said. IsText said text)
         × IfSome (S.left source.old) (λ bytes. IsText (answer (texts_of words.now) bytes) text)
@@ -156,7 +159,12 @@ pub fn dpe<R: Threads + Sync, S: Source, K: Sink, G: Gate>(
     ensures unwritten { result ≡ Status.WriteFault → Reads (task (texts_of words.now)) → (unwritten : Status) × IsWhole unwritten
         × IfSome (S.left source.old) (λ bytes. unwritten ≡ status_of (answer (texts_of words.now) bytes))
         × Took unwritten (S.left source.old) (S.left source.new) }
-    ensures memory { result ≡ Status.NoMemory → Keeps (K.held sink.old) (K.held sink.new) }
+    ensures memory { result ≡ Status.NoMemory → IsWithin (most_bytes + 1) (S.left source.old) (S.left source.new)
+        × Keeps (K.held sink.old) (K.held sink.new) }
+
+    // A fault of either end shows in the status: else its count stands.
+    ensures read_shown { (result ≡ Status.ReadFault) ⊎ (S.faults source.new ≡ S.faults source.old) }
+    ensures write_shown { (result ≡ Status.WriteFault) ⊎ (K.faults sink.new ≡ K.faults sink.old) }
 
     // A workload is reported, where no end fails and there is memory.
     ensures complete { IfSome (S.left source.old) (λ bytes. IsWellFormed (texts_of words.now) bytes

@@ -1,8 +1,5 @@
 //! The report of a workload.
-ghost use Rattle.std.specs.Prelude.{◌≡◌, ℕ, length, take, OnOk, IfOk};
-ghost use Rattle.dpe_base.specs.Queries.{relations};
-ghost use Rattle.dpe_base.specs.Sets.{full};
-ghost use Rattle.join_graph.specs.Graphs.{Connected, graph_of};
+ghost use Rattle.std.specs.Prelude.{◌≡◌, OnOk, IfOk};
 ghost use Rattle.dpe_words.specs.Line.{AreInRange};
 ghost use Rattle.plan_report.specs.Entries.{PlannedQuery, ReportEntry, planned};
 ghost use Rattle.plan_report.specs.Reports.{Appends};

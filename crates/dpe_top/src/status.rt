@@ -1,5 +1,6 @@
 ghost use Rattle.std.specs.Prelude.{◌≡◌};
 ghost use Rattle.dpe_top.specs.declared.status.Status.TheVariants.{NoMemory};
+ghost use Rattle.dpe_top.specs.Statuses.{number_of};
 
 use std::alloc::AllocError;
 
@@ -20,6 +21,15 @@ pub enum Status {
     WriteFault = 5,
     /// Memory ran out: nothing is written.
     NoMemory = 6,
+}
+
+impl Status {
+    /// The number of the status: the exit status of the program.
+    pub fn number(self) -> u8
+        ensures { result ≡ number_of self }
+    {
+        self as u8
+    }
 }
 
 impl From<AllocError> for Status {

@@ -1,9 +1,8 @@
 //! The summary of a sample workload.
-ghost use Rattle.std.specs.Prelude.{◌≡◌, ◌+◌, ◌*◌, ◌-◌, ◌^◌, ℕ, All, IfOk, OnOk, string_bytes};
+ghost use Rattle.std.specs.Prelude.{◌≡◌, ◌+◌, ◌*◌, ◌-◌, ◌^◌, ℕ, IfOk, string_bytes};
 ghost use Rattle.dpe_base.specs.Queries.{relations};
 ghost use Rattle.dpe_base.specs.Sets.{full};
 ghost use Rattle.join_graph.specs.Graphs.{Connected, graph_of};
-ghost use Rattle.query_json.specs.Sound.{IsEntrySound};
 ghost use Rattle.dpe_words.specs.Line.{AreInRange};
 ghost use Rattle.dpe_top.specs.Reports.{kind_of};
 ghost use Rattle.dpe_top.specs.Summary.{AreTotals, IsSample, IsShare, IsSummary, summary_line};
@@ -95,8 +94,7 @@ fn totals_under<M: CostModel, G: Gate, R: Threads + Sync>(
     gate: &G,
 ) -> Result<Totals, AllocError>
     requires ranges { AreInRange settings.now }
-    ensures totals { IfOk result (AreTotals M.KIND workload.now) }
-    ensures sound { OnOk result (All IsEntrySound workload.now) }
+    ensures { IfOk result (AreTotals M.KIND workload.now) }
 {
     let mut totals = Totals::NONE;
     'entries: for i in 0..workload.len() {
@@ -135,9 +133,8 @@ fn summary_of<G: Gate, R: Threads + Sync>(
     settings: &Settings,
     gate: &G,
 ) -> Result<Vec<u8>, AllocError>
-    requires ranges { AreInRange settings.now }
-    ensures sound { OnOk result (All IsEntrySound workload.now) }
-    ensures summary { IfOk result (λ v. IsSummary (kind_of settings.now.model) settings.now.number workload.now v.items) }
+    requires { AreInRange settings.now }
+    ensures { IfOk result (λ v. IsSummary (kind_of settings.now.model) settings.now.number workload.now v.items) }
 {
     let totals = match settings.model {
         ModelKind::Ops => totals_under(rt, alloc, workload, Ops, settings, gate)?,

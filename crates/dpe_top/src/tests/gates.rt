@@ -17,6 +17,7 @@ struct Meeting {
 }
 
 impl Meeting {
+    /// Before either side has come.
     fn new() -> Meeting {
         Meeting {
             one: AtomicBool::new(false),
@@ -25,7 +26,7 @@ impl Meeting {
         }
     }
 
-    // A side comes. It waits the first time.
+    /// A side comes. It waits the first time.
     fn come(&self, own: &AtomicBool, other: &AtomicBool) {
         if own.swap(true, Ordering::SeqCst) {
             return;
@@ -38,15 +39,17 @@ impl Meeting {
         self.late.store(true, Ordering::SeqCst);
     }
 
+    /// The one side comes.
     fn one_comes(&self) {
         self.come(&self.one, &self.other);
     }
 
+    /// The other side comes.
     fn other_comes(&self) {
         self.come(&self.other, &self.one);
     }
 
-    // Whether both sides came, and neither went on alone.
+    /// Whether both sides came, and neither went on alone.
     fn took_place(&self) -> bool {
         self.one.load(Ordering::SeqCst)
             && self.other.load(Ordering::SeqCst)
@@ -62,6 +65,7 @@ pub struct DrawsMeet {
 }
 
 impl DrawsMeet {
+    /// For draws of this ticket and later ones.
     pub fn from_ticket(first: u64) -> DrawsMeet {
         DrawsMeet {
             first,
@@ -69,6 +73,7 @@ impl DrawsMeet {
         }
     }
 
+    /// Whether both workers drew, and neither went on alone.
     pub fn took_place(&self) -> bool {
         self.meeting.took_place()
     }
@@ -95,12 +100,14 @@ pub struct DrawMeetsFilling {
 }
 
 impl DrawMeetsFilling {
+    /// Before the run.
     pub fn new() -> DrawMeetsFilling {
         DrawMeetsFilling {
             meeting: Meeting::new(),
         }
     }
 
+    /// Whether there were both the draw and the filling, and neither went on alone.
     pub fn took_place(&self) -> bool {
         self.meeting.took_place()
     }
@@ -150,6 +157,7 @@ impl Tally {
         self.strays.load(Ordering::SeqCst) == 0
     }
 
+    /// How often a buffer was filled.
     pub fn fillings(&self) -> u64 {
         self.fillings.load(Ordering::SeqCst)
     }

@@ -11,8 +11,8 @@ entries-preserved g c =
       | in-Accepted+in_ok-share w ↦
           subst (λ (t : Totals). HasSummed g.M.CostModel.KIND c.args.workload.now (c.entries.i + 1) t) (sym w.totals-is)
           (summed_more g.M.CostModel.KIND c.args.workload.now c.entries.i c.entries.totals w.with-totals.result c.entry.result.now w.in-Accepted.named w.in_ok-share.share
-          c.entries.invariant c.entry.ensures.value c.entry.ensures.sound w.in-Accepted.is w.in_ok-share.ensures w.with-totals.ensures.sums (w.with-totals.ensures.small c.entries.i c.entries.invariant.small))
+          c.entries.invariant c.entry.ensures.value w.in-Accepted.is w.in_ok-share.ensures w.with-totals.ensures.sums (w.with-totals.ensures.small c.entries.i c.entries.invariant.small))
       | in_default w ↦
           subst (λ (t : Totals). HasSummed g.M.CostModel.KIND c.args.workload.now (c.entries.i + 1) t) (sym w.totals-is)
-          (summed_same g.M.CostModel.KIND c.args.workload.now c.entries.i c.entries.totals c.entry.result.now c.entries.invariant c.entry.ensures.value c.entry.ensures.sound (ap query_in w.in_default.is))
+          (summed_same g.M.CostModel.KIND c.args.workload.now c.entries.i c.entries.totals c.entry.result.now c.entries.invariant c.entry.ensures.value (ap query_in w.in_default.is))
     ]
