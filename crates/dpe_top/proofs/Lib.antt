@@ -3,5 +3,4 @@ pub mod Reporting
 pub mod BestWords
 pub mod Sums
 pub mod OneSample
-pub mod Accepted
 pub mod OneReport

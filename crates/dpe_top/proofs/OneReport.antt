@@ -21,7 +21,7 @@ use Rattle.dpe_words.specs.declared.choices.Settings.{Settings}
 use Rattle.dpe_top.specs.Enumerations.{stats_of, stats_with}
 use Rattle.dpe_top.specs.Laws.{OneReport, WorkersDoNotShow, OnlyStatisticsShowTheEnumerator}
 use Rattle.dpe_top.specs.Reports.{IsPlanned, IsEntrySaid, Says, IsReport, kind_of}
-use Rattle.dpe_top.proofs.Accepted.{sound_entries}
+use Rattle.query_json.proofs.SoundEntries.{sound_entries}
 use Rattle.dpe_top.proofs.OneSample.{one_number, ap_cons}
 
 -- what a report shows of its settings
