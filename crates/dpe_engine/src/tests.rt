@@ -1,7 +1,7 @@
 ghost use Rattle.std.specs.Prelude.{◌≡◌, ◌≤◌, ◌+◌, ◌==◌, [], IfOk, filter, length, vec_capacity};
 ghost use Rattle.dpe_base.specs.Sets.{union, size};
-ghost use Rattle.dpe_engine.specs.Working.{IsMemoOfQuery};
-ghost use Rattle.dpe_engine.specs.Levels.{IsLevel};
+ghost use Rattle.reorder_buffer.specs.Groups.{group_of};
+ghost use Rattle.dpe_engine.specs.Between.{below, IsBetween, IsShared};
 
 mod gates;
 mod observers;
@@ -55,27 +55,28 @@ fn pairs_of_size(alloc: Global, pairs: &[Pair], count: u32) -> Result<Vec<Pair>,
     Ok(few)
 }
 
-// Two workers work the pairs of one size of union.
+// Two workers work the pairs of one size of union, after those of smaller unions and as many rounds.
 fn work_level<R: Threads + Sync>(
     rt: &R,
     memo: &Memo<Ops>,
+    turns: u64,
     count: u32,
     group: &[Pair],
     cards: &CardTable,
     seat: &mut MemoSeat<Ops>,
     crew: &mut Vec<MemoSeat<Ops>>,
 ) -> u64
-    requires planned { IsMemoOfQuery memo.now cards.now }
-    requires level { IsLevel 0 memo.now count seat.old }
-    requires count { count ≤ 100 }
-    requires group { group.now ≡ filter (λ p. size (union p.a p.b) == count) memo.now.pairs }
-    requires few { length group.now ≤ 4 }
+    requires shared { IsShared memo.now cards.now 2 }
+    requires between { IsBetween 0 memo.now 2 (below count memo.now.pairs) turns seat.old }
+    requires group { group.now ≡ group_of count memo.now.pairs }
+    requires some { 1 ≤ length group.now }
     requires empty { crew.old.items ≡ [] }
     requires room { 2 ≤ vec_capacity crew.old }
-    ensures level { IsLevel 0 memo.now (count + 1) seat.new }
+    ensures between { IsBetween 0 memo.now 2 (below (count + 1) memo.now.pairs) (turns + 1) seat.new }
     ensures empty { crew.new.items ≡ [] }
     ensures room { vec_capacity crew.new ≡ vec_capacity crew.old }
 {
+    let _ = (turns, count);
     round(rt, memo, 2, group, &Ops, cards, &OpenGate, seat, crew)
 }
 
@@ -97,9 +98,9 @@ fn two_workers_work_a_chain_of_four(rt: HostRuntime) -> Result<(), Fail> {
     assert_eq!(rt; fours.len(), 3);
     let none = memo.drawn(&mut seat);
     assert_eq!(rt; none, 0);
-    let first = work_level(&rt, &memo, 2, &twos, &cards, &mut seat, &mut crew);
-    let second = work_level(&rt, &memo, 3, &threes, &cards, &mut seat, &mut crew);
-    let third = work_level(&rt, &memo, 4, &fours, &cards, &mut seat, &mut crew);
+    let first = work_level(&rt, &memo, 0, 2, &twos, &cards, &mut seat, &mut crew);
+    let second = work_level(&rt, &memo, 1, 3, &threes, &cards, &mut seat, &mut crew);
+    let third = work_level(&rt, &memo, 2, 4, &fours, &cards, &mut seat, &mut crew);
     assert_eq!(rt; (first, second, third), (0, 5, 11));
     let words = memo.finish(seat);
     // one ticket for each of ten pairs, and one past them for each worker in each round
