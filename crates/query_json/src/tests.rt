@@ -226,6 +226,11 @@ fn the_first_refusal_counts(rt: HostRuntime) -> Result<(), Fail> {
             "6 unknown column b.n",
         ),
         (
+            r#"[{"alias":"a","table":"t"},{"alias":"b","table":"t"}],"joins":[
+            {"left":"b","right":"a","left_column":"n","right_column":"m","selectivity":[1,2]}]"#,
+            "6 unknown column b.n",
+        ),
+        (
             r#"[{"alias":"a","table":"t","filter":[0,1]},{"alias":"b","table":"t"}],"joins":[
             {"left":"a","right":"b","selectivity":[1,2]},{"left":"b","right":"b","selectivity":[1,2]}]"#,
             "7 join of b with itself",
@@ -311,6 +316,23 @@ fn readings(rt: HostRuntime) -> Result<(), Fail> {
         (
             r#"{"tables":[{"name":"\u001f","rows":1}],"queries":[]}"#,
             "$.tables[0].name",
+        ),
+        (
+            r#"{"tables":[{"name":" \u0080~","rows":1}],"queries":[]}"#,
+            "",
+        ),
+        (r#"{"version":0,"tables":[],"queries":[]}"#, "$.version"),
+        (
+            r#"{"queries":7,"tables":[{"name":"a","rows":1,"columns":[{"name":"k","distinct":-1}]},{"name":""}]}"#,
+            "$.tables[0].columns[0].distinct",
+        ),
+        (
+            r#"{"tables":[],"queries":[{"name":"q","relations":[{}],"joins":{}},{"name":""}]}"#,
+            "$.queries[0].relations[0].alias",
+        ),
+        (
+            r#"{"tables":[],"queries":[{"name":"q","relations":[],"joins":[{}]},{"name":""}]}"#,
+            "$.queries[0].joins[0].left",
         ),
         (
             r#"{"tables":[{"name":"\u0041","rows":1},{"name":"A","rows":1}],"queries":[]}"#,
