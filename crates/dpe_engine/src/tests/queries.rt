@@ -42,6 +42,7 @@ fn predicates(alloc: Global, shape: Shape, n: u8) -> Result<Vec<Pred>, AllocErro
     Ok(preds)
 }
 
+/// A query of `n` relations of one row each, joined in the shape by predicates that keep all.
 pub fn query_of_ones(alloc: Global, shape: Shape, n: u8) -> Result<Query, Fail> {
     let one = Rel {
         rows: 1,

@@ -196,6 +196,7 @@ pub fn clique_joins(alloc: Global) -> Result<Vec<(u8, u8)>, AllocError> {
     Ok(joins)
 }
 
+/// Ten relations, each joined with each.
 pub fn clique_of_ten<'a>(joins: &'a [(u8, u8)]) -> Shape<'a> {
     Shape {
         name: "clique",
