@@ -34,6 +34,7 @@ fn solve<P: PairStream, G: Gate, R: Threads + Sync>(
     Ok(solved)
 }
 
+/// A run over the stream of DPccp.
 pub fn solve_by_dpccp<G: Gate, R: Threads + Sync>(
     rt: &R,
     alloc: Global,
@@ -49,6 +50,7 @@ pub fn solve_by_dpccp<G: Gate, R: Threads + Sync>(
     solve(rt, alloc, query, buffer, workers, stream, gate)
 }
 
+/// A run over the stream of DPsize.
 pub fn solve_by_dpsize<G: Gate, R: Threads + Sync>(
     rt: &R,
     alloc: Global,
