@@ -4,16 +4,14 @@ use Rattle.std.specs.List.{fold, slice_get}
 use Rattle.std.proofs.Math.ListN.{set}
 use Rattle.std.proofs.Math.Seq.{take-length}
 use Rattle.std.proofs.lemmas.List.{get_or-set_same, get_or-set_other, get_or_default, length-set, length-replicate, get_or-replicate}
-use Rattle.std.proofs.lemmas.List.Sums.{fold_more}
 use Rattle.std.proofs.lemmas.Bool.{cases_eq, cases_lt}
-use Rattle.dpe_base.specs.declared.query.Pred.{Pred}
 use Rattle.dpe_base.specs.Queries.{JoinQuery, relations, IsQuery}
 use Rattle.std.proofs.lemmas.Nat.{one_shl, pow_pos}
 use Rattle.std.proofs.Math.Nat.{pow-suc}
 use Rattle.std.proofs.Math.Pow.{pow_mono}
 use Rattle.std.proofs.lemmas.Grind.{get_or_default_zero}
 use Rattle.dpe_base.specs.Sets.{member, Has, Within, Disjoint, full, single, union, alone, members_below}
-use Rattle.dpe_base.proofs.SetLaws.{sets, member-above, member-single, below_single}
+use Rattle.dpe_base.proofs.SetLaws.{member-above, member-single, below_single}
 use Rattle.dpe_base.proofs.SizeLaws.{union_add, full_below}
 use Rattle.card_scaled.proofs.NearLaws.{REACH, near_more, card_near, between_near}
 use Rattle.card_scaled.proofs.CardLaws.{card_more, relation_same}

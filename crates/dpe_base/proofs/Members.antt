@@ -1,5 +1,5 @@
 -- Members of a list with a first element, and of the empty list.
-use Rattle.std.proofs.Common.{◌≡◌, ℕ, zero, suc, ◌<◌, ◌⊎◌, inl, inr, arith, refl, List, [], ◌∷◌}
+use Rattle.std.proofs.Common.{◌≡◌, zero, suc, ◌⊎◌, inl, inr, arith, refl, List, [], ◌∷◌}
 use Rattle.std.specs.List.{Contains}
 
 pub contains_head : {X : Type 0} (x : X) (xs : List X) → Contains (x ∷ xs) x

@@ -1,19 +1,16 @@
 -- A report that grows entry by entry.
 use Rattle.std.proofs.lemmas.Option.{slice_get_within, get_or_from_slice_get}
-use Rattle.std.proofs.lemmas.List.{take_all, take_more}
+use Rattle.std.proofs.lemmas.List.{take_more}
 use Rattle.std.proofs.lemmas.List.Folds.{list_any-append, list_any-from_Any}
-use Rattle.std.proofs.Common.{arith, ◌≡◌, ◌+◌, ℕ, true, false, refl, sym, ◌∙◌, ap, subst, List, [], ◌∷◌, ◌++◌, length, take, Some}
+use Rattle.std.proofs.Common.{◌≡◌, ◌+◌, ℕ, true, false, refl, ◌∙◌, List, [], ◌∷◌, ◌++◌, take, Some}
 use Rattle.std.specs.List.{slice_get}
 use Rattle.query_json.specs.declared.entry.Entry.{Entry}
-use Rattle.plan_report.specs.declared.report.Format.{Format}
-use Rattle.plan_report.specs.declared.report.Format.TheVariants.{Text, Json}
 use Rattle.plan_report.specs.declared.report.Report.{Report}
 use Rattle.plan_report.specs.Entries.{ReportEntry}
-use Rattle.plan_report.specs.Json.{report_line}
-use Rattle.plan_report.specs.Reports.{Appends, Holds, format_of, text_in, entries_in, report_bytes}
-use Rattle.plan_report.proofs.Holdings.{holds_none, holds_more}
+use Rattle.plan_report.specs.Reports.{Appends, Holds, format_of}
+use Rattle.plan_report.proofs.Holdings.{holds_more}
 use Rattle.dpe_words.specs.declared.choices.Settings.{Settings}
-use Rattle.dpe_top.specs.Reports.{IsEntrySaid, IsReport, Says, is_refused, has_refused}
+use Rattle.dpe_top.specs.Reports.{IsEntrySaid, Says, is_refused, has_refused}
 
 -- the report says this of the first i entries
 pub record HasSaid (settings : Settings) (entries : List Entry) (i : ℕ) (report : Report) : Type 0 where

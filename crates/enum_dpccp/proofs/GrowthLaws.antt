@@ -2,7 +2,6 @@
 use Rattle.std.proofs.Common.{◌≡◌, ◌≢◌, ℕ, suc, ◌+◌, ◌-◌, ◌<◌, ◌≤◌, inl, inr, arith, refl, sym, ◌∙◌, ap, subst, List, [], ◌∷◌, ◌++◌, map, append_assoc, append-nil, length, length-append}
 use Rattle.std.specs.List.{Contains, flat_map}
 use Rattle.std.proofs.lemmas.Bool.{cases_eq}
-use Rattle.dpe_base.specs.declared.TheConstants.{N_MAX}
 use Rattle.dpe_base.specs.Sets.{Has, Within, Disjoint, IsNextSubset, member, union, minus, full, size}
 use Rattle.dpe_base.proofs.SetLaws.{sets, same_set, empty_has, has_some, union_left, union_right, union_cases, minus_has, minus_left, minus_right, union_within, within_same}
 use Rattle.dpe_base.proofs.NextSubset.{within_le}

@@ -2,9 +2,9 @@
 use Rattle.std.proofs.Common.{◌≡◌, ◌≢◌, ℕ, zero, suc, ◌+◌, ◌*◌, ◌≤◌, ◌<◌, arith, refl, sym, ◌∙◌, ap, subst}
 use Rattle.dpe_base.specs.declared.TheConstants.{COST_LIMIT, SPAN}
 use Rattle.dpe_base.specs.Queries.{JoinQuery, IsQuery}
-use Rattle.dpe_base.specs.Sets.{Has, Within, Disjoint, IsLeast, union, minus, single, size}
+use Rattle.dpe_base.specs.Sets.{Has, Within, Disjoint, union, minus, size}
 use Rattle.dpe_base.proofs.SetLaws.{sets, same_set, member-same}
-use Rattle.dpe_base.proofs.SizeLaws.{union_add, size-single, size_one}
+use Rattle.dpe_base.proofs.SizeLaws.{union_add, size-single}
 use Rattle.join_graph.specs.Graphs.{Connected, Crossed, graph_of}
 use Rattle.card_scaled.specs.Cards.{rows}
 use Rattle.cost_model.specs.Costs.{operators, join_cost}
@@ -12,7 +12,7 @@ use Rattle.cost_model.specs.Words.{word, word_op, word_left}
 use Rattle.cost_model.proofs.CostLaws.{operators_few}
 use Rattle.cost_model.proofs.WordLaws.{word_mono}
 use Rattle.join_tree.specs.Trees.{JoinTree, leaf, join, set_of, cost, root_word, Legal, HasWord, Best, Plan, EverySubtree}
-use Rattle.join_tree.proofs.TreeLaws.{connected_single_known, legal_connected, join_size}
+use Rattle.join_tree.proofs.TreeLaws.{legal_connected}
 use Rattle.join_tree.proofs.BestLaws.{HasBest, legal_small, join_word, best_below, best_cost}
 
 every_root : (P : JoinTree → Type 0) (t : JoinTree) → EverySubtree P t → P t

@@ -1,17 +1,16 @@
 -- What the best word of a set says of the root of its plan.
 use Rattle.std.proofs.Common.{◌≡◌, ◌≢◌, ℕ, ◌+◌, ◌*◌, ◌<◌, arith, refl, sym, ◌∙◌, ap, subst}
-use Rattle.dpe_base.specs.declared.TheConstants.{SPAN, COST_LIMIT}
+use Rattle.dpe_base.specs.declared.TheConstants.{SPAN}
 use Rattle.dpe_base.specs.Queries.{JoinQuery, relations, IsQuery}
 use Rattle.dpe_base.specs.Sets.{Within, IsLeast, minus, single, full, size}
 use Rattle.dpe_base.proofs.SetLaws.{sets, member-same}
 use Rattle.dpe_base.proofs.SizeLaws.{size-single, size-empty, size_one}
 use Rattle.join_graph.specs.Graphs.{Connected, graph_of}
 use Rattle.cost_model.specs.Words.{word_op, word_left}
-use Rattle.join_tree.specs.Trees.{JoinTree, leaf, join, set_of, cost, Legal, HasWord, Best, Plan}
+use Rattle.join_tree.specs.Trees.{JoinTree, leaf, join, set_of, Legal, HasWord, Best, Plan}
 use Rattle.plan_report.specs.declared.plan.Root.{Root}
 use Rattle.plan_report.specs.Words.{IsRoot}
 use Rattle.join_tree.proofs.TreeLaws.{join_size}
-use Rattle.join_tree.proofs.BestLaws.{best_below}
 use Rattle.join_tree.proofs.PlanLaws.{IsPlanRoot, plan_root}
 
 -- the least relation of a set of one is the set

@@ -11,7 +11,7 @@ use Rattle.json.specs.declared.value.Value.{Value}
 use Rattle.json.specs.declared.value.Value as tree
 use Rattle.json.proofs.Trees.{view-Array}
 use Rattle.serde_json.specs.Data.{Num, Data, number, array, object, item, Members, no_members, put}
-use Rattle.serde_json.specs.Find.{get, get_member, as_null, as_str, as_array, as_object}
+use Rattle.serde_json.specs.Find.{get, get_member, as_array}
 use Rattle.serde_json.specs.Read.{max_depth, number_of, of_json, of_items, of_members, read}
 use Rattle.serde_json.proofs.Views.{get_member-put, get_member-put_other}
 use Rattle.query_json.specs.declared.fault.FileFault.TheVariants.{NotJson}
