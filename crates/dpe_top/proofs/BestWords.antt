@@ -1,6 +1,6 @@
 -- What a run over a complete list gives: best words, and the plan with its counts.
-use Rattle.std.proofs.Common.{◌≡◌, ◌∙◌, ℕ, ◌^◌, ◌<◌, List, length, Option, ap, subst, sym}
-use Rattle.std.specs.Prelude.{slice_index, slice_index_or}
+use Rattle.std.proofs.Common.{◌≡◌, ◌∙◌, ℕ, ◌+◌, ◌*◌, List, length, Option, ap, subst, sym}
+use Rattle.std.specs.Prelude.{slice_index}
 use Rattle.dpe_base.specs.declared.pair.Pair.{Pair}
 use Rattle.dpe_base.specs.Queries.{JoinQuery, relations, IsQuery}
 use Rattle.dpe_base.specs.Sets.{full}
@@ -15,15 +15,10 @@ use Rattle.pair_stream.specs.Orders.{Complete}
 use Rattle.reorder_buffer.specs.Groups.{runs, rounds}
 use Rattle.plan_report.specs.declared.entry.Stats.{Stats}
 use Rattle.plan_report.specs.Words.{HasBestWords}
-use Rattle.dpe_engine.specs.Engines.{EnginePlan, IsLeastWord}
+use Rattle.dpe_engine.specs.Engines.{EnginePlan}
 use Rattle.dpe_words.specs.declared.choices.Settings.{Settings}
 use Rattle.dpe_top.specs.Enumerations.{pairs_of, total_probes, stats_with}
-use Rattle.dpe_top.specs.Plans.{IsPlanOf}
-
--- each word of the row is the least of its set, or EMPTY
-abbrev pub AreLeastWords : ℕ → JoinQuery → List Pair → List ℕ → Type 0
-AreLeastWords kind q pairs row =
-    (s : ℕ) → s < 2 ^ relations q → IsLeastWord kind q pairs s (slice_index_or row s 0)
+use Rattle.dpe_top.specs.Plans.{AreLeastWords, IsPlanOf, IsRun, engine_of}
 
 least_words_best : (kind : ℕ) (q : JoinQuery) (pairs : List Pair) (row : List ℕ) → IsQuery q → Complete (graph_of q) pairs
     → AreLeastWords kind q pairs row → HasBestWords kind q row (full (relations q))
@@ -33,34 +28,40 @@ least_words_best kind q pairs row ok complete words s connected within =
     (least_best kind q pairs ok complete.members s (slice_index row s)).0
     ((words s (full_below s (relations q) within)).least best.0 least.made)
 
--- the row that an engine's run gives
-pub run_best : (kind : ℕ) (q : JoinQuery) (pairs : List Pair) (buffer workers : ℕ) (e : EnginePlan) (words row : List ℕ) (n all : ℕ)
-    → e ≡ record { query = q; pairs = pairs; buffer = buffer; workers = workers } → IsQuery q → Complete (graph_of q) pairs
-    → AreLeastWords kind e.query e.pairs words → row ≡ words → n ≡ relations q → all ≡ full n → HasBestWords kind q row all
-run_best kind q pairs buffer workers e words row n all is ok complete least same sized whole =
-    let on_row : AreLeastWords kind e.query e.pairs row = subst (λ (ws : List ℕ). AreLeastWords kind e.query e.pairs ws) (sym same) least in
+-- the row that a run gives
+pub run_best : (kind : ℕ) (settings : Settings) (q : JoinQuery) (pairs : List Pair) (words row : List ℕ) (tickets count filled worked n all : ℕ)
+    → IsRun kind (engine_of settings q pairs) words tickets count filled worked → IsQuery q → Complete (graph_of q) pairs
+    → row ≡ words → n ≡ relations q → all ≡ full n → HasBestWords kind q row all
+run_best kind settings q pairs words row tickets count filled worked n all run ok complete same sized whole =
     subst (λ (s : ℕ). HasBestWords kind q row s) (sym (whole ∙ ap full sized))
-    (least_words_best kind q pairs row ok complete (subst (λ (x : EnginePlan). AreLeastWords kind x.query x.pairs row) is on_row))
+    (least_words_best kind q pairs row ok complete (subst (λ (ws : List ℕ). AreLeastWords kind q pairs ws) (sym same) run.words))
 
--- the plan and the counts of an engine's run
-pub run_plans : (kind : ℕ) (settings : Settings) (q : JoinQuery) (pairs : List Pair) (e : EnginePlan) (count filled worked looked n all : ℕ) (tree : Tree) (stats : Option Stats)
-    → e ≡ record { query = q; pairs = pairs; buffer = settings.buffer; workers = settings.workers }
+-- the plan and the counts of a run
+pub run_plans : (kind : ℕ) (settings : Settings) (q : JoinQuery) (pairs : List Pair) (row : List ℕ) (tickets count filled worked looked n all : ℕ) (tree : Tree) (stats : Option Stats)
+    → IsRun kind (engine_of settings q pairs) row tickets count filled worked
     → pairs ≡ pairs_of settings.enumerator (graph_of q) → Complete (graph_of q) pairs
-    → count ≡ length e.pairs → filled ≡ length (runs e.buffer e.pairs) → worked ≡ rounds e.buffer e.pairs
     → looked ≡ total_probes settings.enumerator (graph_of q) → stats ≡ stats_with settings filled worked looked
     → n ≡ relations q → all ≡ full n → Plan kind q all (tree_of tree)
     → IsPlanOf kind settings q (record { tree = tree; pairs = count; stats = stats })
-run_plans kind settings q pairs e count filled worked looked n all tree stats is list complete counted fills turns looks said sized whole plan =
+run_plans kind settings q pairs row tickets count filled worked looked n all tree stats run list complete looks said sized whole plan =
     let all_fills : filled ≡ length (runs settings.buffer (pairs_of settings.enumerator (graph_of q))) =
-    fills ∙ ap (λ (x : EnginePlan). length (runs x.buffer x.pairs)) is ∙ ap (λ (ps : List Pair). length (runs settings.buffer ps)) list in
+    run.buffers ∙ ap (λ (ps : List Pair). length (runs settings.buffer ps)) list in
     let all_turns : worked ≡ rounds settings.buffer (pairs_of settings.enumerator (graph_of q)) =
-    turns ∙ ap (λ (x : EnginePlan). rounds x.buffer x.pairs) is ∙ ap (λ (ps : List Pair). rounds settings.buffer ps) list in
+    run.rounds ∙ ap (λ (ps : List Pair). rounds settings.buffer ps) list in
     record {
       plan = subst (λ (s : ℕ). Plan kind q s (tree_of tree)) (whole ∙ ap full sized) plan;
-      pairs = (pairs, complete, counted ∙ ap (λ (x : EnginePlan). length x.pairs) is);
+      pairs = (pairs, complete, run.pairs);
       stats =
           said
           ∙ ap (λ (k : ℕ). stats_with settings k worked looked) all_fills
           ∙ ap (λ (k : ℕ). stats_with settings (length (runs settings.buffer (pairs_of settings.enumerator (graph_of q)))) k looked) all_turns
           ∙ ap (λ (k : ℕ). stats_with settings (length (runs settings.buffer (pairs_of settings.enumerator (graph_of q)))) (rounds settings.buffer (pairs_of settings.enumerator (graph_of q))) k) looks;
     }
+
+-- the run of the engine that was prepared
+pub run_is : (kind : ℕ) (e asked : EnginePlan) (row : List ℕ) (tickets count filled worked : ℕ)
+    → e ≡ asked → AreLeastWords kind e.query e.pairs row → count ≡ length e.pairs → tickets ≡ count + e.workers * worked
+    → filled ≡ length (runs e.buffer e.pairs) → worked ≡ rounds e.buffer e.pairs → IsRun kind asked row tickets count filled worked
+run_is kind e asked row tickets count filled worked is words pairs drawn buffers turns =
+    subst (λ (x : EnginePlan). IsRun kind x row tickets count filled worked) is
+    (record { words = words; pairs = pairs; drawn = drawn; buffers = buffers; rounds = turns })

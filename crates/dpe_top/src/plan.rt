@@ -1,12 +1,12 @@
 //! The plan of one query: the engine over the pairs of an enumerator, and the tree from the words that it gives.
-ghost use Rattle.std.specs.Prelude.{◌≡◌, IfOk};
+ghost use Rattle.std.specs.Prelude.{◌≡◌, ◌^◌, IfOk, IsTrue, length};
 ghost use Rattle.dpe_base.specs.Queries.{relations};
 ghost use Rattle.dpe_base.specs.Sets.{full};
 ghost use Rattle.join_graph.specs.Graphs.{Connected, graph_of};
 ghost use Rattle.pair_stream.specs.Orders.{Complete, Ordered};
 ghost use Rattle.dpe_words.specs.Line.{AreInRange};
 ghost use Rattle.dpe_top.specs.Enumerations.{pairs_of, total_probes, stats_with};
-ghost use Rattle.dpe_top.specs.Plans.{IsPlanOf};
+ghost use Rattle.dpe_top.specs.Plans.{IsPlanOf, IsRun, engine_of};
 
 use cost_model::CostModel;
 use dpe_base::{Kind, Query, RelSet};
@@ -46,6 +46,36 @@ fn stats_in(settings: &Settings, solved: &Solved, probes: u64) -> Option<Stats>
     }
 }
 
+/// A run over the stream, by the buffers and the workers of the settings, and the stream at its end.
+fn solve<M: CostModel, P: PairStream, G: Gate, R: Threads + Sync>(
+    rt: &R,
+    alloc: Global,
+    query: &Query,
+    model: M,
+    settings: &Settings,
+    stream: P,
+    gate: &G,
+) -> Result<(Solved, P), AllocError>
+    requires ranges { AreInRange settings.now }
+    requires complete { Complete (graph_of query.now) (P.left stream) }
+    requires ordered { Ordered (P.left stream) }
+    ensures run { IfOk result (λ run. IsRun M.KIND (engine_of settings.now query.now (P.left stream)) run.0.words.row run.0.words.drawn run.0.pairs run.0.buffers run.0.rounds) }
+    ensures size { IfOk result (λ run. length run.0.words.row ≡ 2 ^ relations query.now) }
+    ensures ended { IfOk result (λ run. IsTrue (P.ended run.1)) }
+    ensures total { IfOk result (λ run. P.total run.1 ≡ P.total stream) }
+{
+    let engine = Engine::prepare(
+        alloc,
+        query,
+        model,
+        settings.buffer,
+        settings.workers,
+        &stream,
+    )?;
+    let (solved, stream) = engine.run(rt, stream, gate);
+    Ok((solved, stream))
+}
+
 /// The plan of the query by a run over the stream, which gives the pairs of the settings' enumerator.
 fn plan_over<M: CostModel, P: PairStream, G: Gate, R: Threads + Sync>(
     rt: &R,
@@ -65,15 +95,7 @@ fn plan_over<M: CostModel, P: PairStream, G: Gate, R: Threads + Sync>(
     ensures { IfOk result (IsPlanOf M.KIND settings.now query.now) }
 {
     let all = RelSet::full(query.n());
-    let engine = Engine::prepare(
-        alloc,
-        query,
-        model,
-        settings.buffer,
-        settings.workers,
-        &stream,
-    )?;
-    let (solved, stream) = engine.run(rt, stream, gate);
+    let (solved, stream) = solve(rt, alloc, query, model, settings, stream, gate)?;
     let tree = build(alloc, query, &model, solved.words.row(), all)?;
     let stats = stats_in(settings, &solved, stream.probes());
     Ok(Planned {
