@@ -8,7 +8,7 @@ use Rattle.std.proofs.lemmas.Nat.{pow_pos, le_or_l, mod_below, div-add-mod', div
 use Rattle.std.proofs.lemmas.Nat.Bits.{bit_at_ones}
 use Rattle.std.specs.Int.RustNames.{bit_or}
 use Rattle.dpe_base.specs.Sets.{member, Has, Disjoint, single, union}
-use Rattle.dpe_base.proofs.SetLaws.{sets, same_set}
+use Rattle.dpe_base.proofs.SetLaws.{sets, same_set, single_has, union_right}
 use Rattle.dpe_base.proofs.SizeLaws.{union_add}
 use Rattle.card_scaled.specs.Scaled.{ScaledNumber, IsNear, frac, mul, one}
 use Rattle.card_scaled.specs.Cards.{times_pred}
@@ -24,10 +24,7 @@ pub record IsMultiplied (p : Pred) (half k : ℕ) (old new : List ScaledNumber) 
 -- the next set that has the relation: between it and a set that has it lie none
 next_has : (k b : ℕ) → Has (bit_or (k + 1) (2 ^ b)) b
 unfolding union single
-next_has k b = has (k + 1) b
-  where
-    has : (k b : ℕ) → Has (union k (single b)) b
-    has k b = grind (arith, sets)
+next_has k b = union_right (k + 1) (single b) b (single_has b)
 
 none_until : (k b j : ℕ) → Has k b → k < j → j < bit_or (k + 1) (2 ^ b) → member j b ≢ 1
 unfolding union single member

@@ -1,9 +1,10 @@
 -- A worker on its way.
-use Rattle.std.proofs.Common.{◌≡◌, ◌≢◌, ℕ, zero, suc, ◌+◌, ◌-◌, ◌<◌, ◌≤◌, ◌==◌, Bool, true, false, List, [], ◌∷◌, ◌++◌, All, Contains, length, get_or, drop, sym, refl, ap, ◌∙◌, subst, arith, ◌⊎◌, inl, inr, ⊎_elim, append_assoc, append-nil, length-append}
+use Rattle.std.proofs.Common.{◌≡◌, ◌≢◌, ℕ, ◌+◌, ◌-◌, ◌<◌, ◌≤◌, ◌==◌, Bool, true, false, List, [], ◌∷◌, ◌++◌, All, Contains, length, get_or, drop, sym, refl, ap, ◌∙◌, subst, arith, ◌⊎◌, inl, inr, ⊎_elim, append_assoc, append-nil, length-append}
 use mathlib.Core.Logic.{dite}
 use native.Mathlib.Decide.{ℕ_discrete}
 use Rattle.std.proofs.lemmas.Bool.Decides.{nat_tests}
-use Rattle.std.proofs.lemmas.List.{drop_more}
+use Rattle.std.proofs.lemmas.Bool.{true≢false}
+use Rattle.std.proofs.lemmas.List.{drop_more, get_or_default}
 use Rattle.std.proofs.lemmas.List.Elements.{All-contains, Contains-append_left, Contains-append_right, Contains-append_cases, Contains-push, Contains-push_cases}
 use Rattle.dpe_base.specs.declared.pair.Pair.{Pair}
 use Rattle.dpe_base.specs.Queries.{JoinQuery}
@@ -15,16 +16,8 @@ use Rattle.dpe_engine.specs.Working.{IsBounded, IsDone, IsReady, HasDrawn, HasWo
 use Rattle.dpe_engine.proofs.Tickets.{past-append, times_other, past_one, past_none}
 use Rattle.dpe_engine.proofs.PairSteps.{stays_settled}
 
-pub get_any : {A : Type 0} (xs : List A) (k : ℕ) (c d : A) → k < length xs → get_or xs k c ≡ get_or xs k d
-get_any [] k c d h = absurd (omega arith)
-get_any (x ∷ xs) zero c d h = refl
-get_any (x ∷ xs) (suc k) c d h = get_any xs k c d (omega arith)
-
 pub more_done : (kind : ℕ) (q : JoinQuery) (pairs : List Pair) (bs cs : List (ℕ × ℕ)) (p : Pair) → ((b : ℕ × ℕ) → Contains bs b → Contains cs b) → IsDone kind q pairs bs p → IsDone kind q pairs cs p
 more_done kind q pairs bs cs p grow d w l = ⊎_elim (λ e. inl e) (λ (h : IsBounded bs _ w). inr (record { word = h.word; bound = grow (_, h.word) h.bound; most = h.most })) (d w l)
-
-true_not_false : true ≡ false → ⊥
-true_not_false e = cc
 
 pub begins : (kind base : ℕ) (group : List Pair) (before : SeatView) → IsWorking kind base group before before [] false
 begins kind base group before =
@@ -120,7 +113,7 @@ module _ (kind : ℕ) (memo : MemoTable) (base : ℕ) (group : List Pair) (befor
           tickets = o.tickets ++ n ∷ [];
           drawn = drawn;
           passed = let p = past-append (base + length group) o.tickets (n ∷ []) in let q = past_one (base + length group) n outside in let z = o.passed in omega arith;
-          reached = λ (e : true ≡ false). absurd (true_not_false e);
+          reached = λ (e : true ≡ false). absurd (true≢false e);
           inside = o.inside;
           done = λ k d h has.
               let ne : base + k ≢ n = λ e. omega arith in
@@ -162,7 +155,7 @@ module _ (kind : ℕ) (memo : MemoTable) (base : ℕ) (group : List Pair) (befor
         inside = λ k c. o.inside k (Contains-append_right (place ∷ []) rest k c);
         done = λ k d h has. dite (ℕ_discrete k place)
             (λ (e : k ≡ place).
-            let same : p ≡ get_or group k d = is ∙ (ap (λ (i : ℕ). get_or group i p) (sym e) ∙ get_any group k p d h) in
+            let same : p ≡ get_or group k d = is ∙ (ap (λ (i : ℕ). get_or group i p) (sym e) ∙ get_or_default group k p d h) in
             let F : Pair → Type 0 = IsDone kind before.view.query before.view.pairs after.view.bounds in
             inl (subst F same (rw (← o.drawn.query, ← o.drawn.pairs) w.done)))
             (λ (ne : k ≢ place). ⊎_elim
@@ -185,12 +178,6 @@ ends kind base group before now o =
     }
 
 -- ---- the places from the i-th on
-
-pub drop_all : (i : ℕ) (xs : List ℕ) → length xs ≤ i → drop i xs ≡ []
-drop_all zero [] h = refl
-drop_all (suc i) [] h = refl
-drop_all zero (x ∷ xs) h = absurd (omega arith)
-drop_all (suc i) (x ∷ xs) h = drop_all i xs (omega arith)
 
 pub works_at : (kind base : ℕ) (group : List Pair) (before now : SeatView) (places seen : List ℕ) (i : ℕ) (over : Bool) → IsWorking kind base group before now (drop i places) over → seen ≡ places → i < length places
     → IsWorking kind base group before now (get_or seen i 0 ∷ drop (i + 1) places) over

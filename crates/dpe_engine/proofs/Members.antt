@@ -1,7 +1,8 @@
 -- Groups and fronts of a list of pairs.
-use Rattle.std.proofs.Common.{◌≡◌, ℕ, zero, suc, ◌+◌, ◌≤◌, nat_lt, Bool, true, false, cond, List, [], ◌∷◌, ◌++◌, length, take, refl, sym, ap, ◌∙◌, arith, length-append, append_assoc}
+use Rattle.std.proofs.Common.{◌≡◌, ℕ, ◌+◌, ◌≤◌, nat_lt, Bool, true, false, cond, List, [], ◌∷◌, ◌++◌, length, take, refl, sym, ap, ◌∙◌, arith, length-append, append_assoc}
 use Rattle.std.proofs.lemmas.Bool.Decides.{nat_tests}
 use Rattle.std.proofs.Math.Seq.{take-append_seam}
+use Rattle.std.proofs.lemmas.List.{length-take-le}
 use Rattle.dpe_base.specs.declared.pair.Pair.{Pair}
 use Rattle.dpe_base.specs.Sets.{union, size}
 use Rattle.reorder_buffer.specs.Groups.{union_size, group_of, groups_below}
@@ -44,15 +45,10 @@ turned_none n turns xs none = let e = groups_more n xs in let o = one (length (g
     one : (k : ℕ) → k ≡ 0 → cond (nat_lt 0 k) 1 0 + 0 ≡ 0
     one k none = grind (arith, nat_tests)
 
-pub length_take : (k : ℕ) (xs : List Pair) → k ≤ length xs → length (take k xs) ≡ k
-length_take zero xs h = refl
-length_take (suc k) [] h = absurd (omega arith)
-length_take (suc k) (x ∷ xs) h = ap suc (length_take k xs (omega arith))
-
 -- the front of a list, with the next piece
 pub take_more : (k : ℕ) (whole xs ys : List Pair) → k ≤ length whole → whole ≡ take k whole ++ (xs ++ ys) → take (k + length xs) whole ≡ take k whole ++ xs
 take_more k whole xs ys h is =
     let front : List Pair = take k whole ++ xs in
     let e : whole ≡ front ++ ys = is ∙ sym (append_assoc (take k whole) xs ys) in
-    let n : k + length xs ≡ length front = let a = length-append (take k whole) xs in let b = length_take k whole h in omega arith in
+    let n : k + length xs ≡ length front = let a = length-append (take k whole) xs in let b = length-take-le k whole h in omega arith in
     ap (λ (i : ℕ). take i whole) n ∙ (ap (λ (l : List Pair). take (length front) l) e ∙ take-append_seam front ys)

@@ -1,21 +1,23 @@
 -- One pair is worked.
-use Rattle.std.proofs.Common.{◌≡◌, ◌≢◌, ℕ, ◌<◌, ◌≤◌, ◌⊎◌, Bool, cond, List, [], ◌∷◌, Contains, sym, refl, ap, ◌∙◌, subst, arith, inl, inr, ⊎_elim, eq-eqb, ne_eqb, le_refl, append-nil}
+use Rattle.std.proofs.Common.{◌≡◌, ◌≢◌, ℕ, ◌<◌, ◌≤◌, ◌⊎◌, Bool, [], ◌∷◌, Contains, sym, refl, ap, ◌∙◌, subst, arith, inl, inr, ⊎_elim, eq-eqb, ne_eqb, le_refl, append-nil}
 use mathlib.Core.Logic.{dite}
 use native.Mathlib.Decide.{ℕ_discrete}
-use Rattle.std.proofs.lemmas.List.Elements.{Contains-append_right}
 use Rattle.dpe_base.specs.declared.TheConstants.{EMPTY, SPAN}
 use Rattle.dpe_base.specs.declared.pair.Pair.{Pair}
 use Rattle.dpe_base.specs.Queries.{JoinQuery, relations, IsQuery}
 use Rattle.dpe_base.specs.Sets.{Within, full, union}
-use Rattle.dpe_base.proofs.SetLaws.{sets}
+use Rattle.dpe_base.proofs.Members.{contains_tail}
+use Rattle.dpe_base.proofs.SetLaws.{union_within}
 use Rattle.dpe_base.proofs.SizeLaws.{within_span, union_some}
 use Rattle.join_graph.specs.Graphs.{Pairs, graph_of}
 use Rattle.card_scaled.specs.Cards.{rows}
 use Rattle.cost_model.specs.Words.{best_word}
 use Rattle.join_tree.specs.Trees.{Made, Least, pair_word}
+use Rattle.join_tree.proofs.Substructure.{least_word_same}
 use Rattle.memo_table.specs.declared.view.View.{View}
 use Rattle.memo_table.specs.Seats.{SeatView, Settled}
 use Rattle.memo_table.specs.Views.{with_bound, with_offer}
+use Rattle.memo_table.proofs.SeatLaws.{offer_if}
 use Rattle.dpe_engine.specs.Working.{HasWorkedPair}
 
 -- what a pair of the query keeps
@@ -29,9 +31,6 @@ pub record IsPairOf (q : JoinQuery) (p : Pair) : Type 0 where
   pub small_first : p.a < SPAN
   pub small_second : p.b < SPAN
 
-both_within : (all a b : ℕ) → Within a all → Within b all → Within (union a b) all
-both_within all a b ha hb r h = grind (arith, sets, ha r, hb r)
-
 pub pair_of_query : (q : JoinQuery) (p : Pair) → IsQuery q → Pairs (graph_of q) p → IsPairOf q p
 pair_of_query q p ok is =
     record {
@@ -40,13 +39,10 @@ pair_of_query q p ok is =
       some_union = union_some p.a p.b is.first.some;
       first = is.first.within;
       second = is.second.within;
-      both = both_within (full (relations q)) p.a p.b is.first.within is.second.within;
+      both = union_within p.a p.b (full (relations q)) is.first.within is.second.within;
       small_first = within_span p.a (relations q) is.first.within ok.few;
       small_second = within_span p.b (relations q) is.second.within ok.few;
     }
-
-pub least_same : (kind : ℕ) (q : JoinQuery) (pairs : List Pair) (s v w : ℕ) → Least kind q pairs s v → Least kind q pairs s w → v ≡ w
-least_same kind q pairs s v w a b = let x = a.least w b.made in let y = b.least v a.made in omega arith
 
 -- the word that is loaded of a settled set is its least word
 pub loaded_least : (kind : ℕ) (v : View) (s x : ℕ) → Settled kind v s → Made kind v.query v.pairs s x → ((w : ℕ) → Contains v.bounds (s, w) → x ≤ w) → Least kind v.query v.pairs s x
@@ -57,9 +53,6 @@ loaded_least kind v s x settled made low =
 pub stays_settled : (kind : ℕ) (v w : View) (s : ℕ) → w.query ≡ v.query → w.pairs ≡ v.pairs → ((b : ℕ × ℕ) → Contains v.bounds b → Contains w.bounds b) → Settled kind v s → Settled kind w s
 stays_settled kind v w s q p grow settled =
     record { word = settled.word; bound = grow (s, settled.word) settled.bound; least = rw (q, p) settled.least }
-
-abbrev offered_if : View → ℕ → ℕ → Bool → View
-offered_if v s w b = cond b v (with_bound v s w)
 
 -- what an offer leaves
 record IsOffered (v after : View) (s w : ℕ) : Type 0 where
@@ -72,15 +65,12 @@ record IsOffered (v after : View) (s w : ℕ) : Type 0 where
   pub allowance : after.allowance ≡ v.allowance
   pub known : (w ≡ EMPTY) ⊎ Contains after.bounds (s, w)
 
-pub more : (x : ℕ × ℕ) (xs : List (ℕ × ℕ)) (b : ℕ × ℕ) → Contains xs b → Contains (x ∷ xs) b
-more x xs b c = Contains-append_right (x ∷ []) xs b c
-
 offering : (v : View) (s w : ℕ) → IsOffered v (with_offer v s w) s w
 offering v s w = dite (ℕ_discrete w EMPTY)
-    (λ (e : w ≡ EMPTY). let F : Bool → Type 0 = λ b. IsOffered v (offered_if v s w b) s w in
+    (λ (e : w ≡ EMPTY). let F : Bool → Type 0 = λ b. IsOffered v (offer_if v s w b) s w in
     subst F (sym (eq-eqb w EMPTY e)) record { query = refl; pairs = refl; bounds = λ b h. h; floor = refl; weight = refl; tickets = refl; allowance = refl; known = inl e })
-    (λ (ne : w ≢ EMPTY). let F : Bool → Type 0 = λ b. IsOffered v (offered_if v s w b) s w in
-    subst F (sym (ne_eqb w EMPTY ne)) record { query = refl; pairs = refl; bounds = λ b h. more (s, w) v.bounds b h; floor = refl; weight = refl; tickets = refl; allowance = refl; known = inr (0, omega arith, refl) })
+    (λ (ne : w ≢ EMPTY). let F : Bool → Type 0 = λ b. IsOffered v (offer_if v s w b) s w in
+    subst F (sym (ne_eqb w EMPTY ne)) record { query = refl; pairs = refl; bounds = contains_tail (s, w) v.bounds; floor = refl; weight = refl; tickets = refl; allowance = refl; known = inr (0, omega arith, refl) })
 
 -- the word of the split, by what the table answered
 pub word_is : (kind : ℕ) (q : JoinQuery) (p : Pair) (wa wb la lb o word : ℕ) → word ≡ best_word kind p.a p.b wa wb la lb o → la ≡ rows q p.a → lb ≡ rows q p.b → o ≡ rows q (union p.a p.b) → word ≡ pair_word kind q p wa wb
@@ -101,15 +91,15 @@ worked_pair kind p before one two after wa wb word t1 t2 t3 v1 v2 v3 la lb is =
         table = t3 ∙ (t2 ∙ t1);
         query = f.query;
         pairs = f.pairs;
-        bounds = λ b h. f.bounds b (more (p.b, wb) ((p.a, wa) ∷ before.view.bounds) b (more (p.a, wa) before.view.bounds b h));
+        bounds = λ b h. f.bounds b (contains_tail (p.b, wb) ((p.a, wa) ∷ before.view.bounds) b (contains_tail (p.a, wa) before.view.bounds b h));
         floor = f.floor;
         weight = f.weight;
         tickets = f.tickets ∙ sym (append-nil before.view.tickets);
         allowance = let a = f.allowance in omega arith;
       };
       done = λ w l.
-          let ea = least_same kind q before.view.pairs p.a wa l.first la l.least_first in
-          let eb = least_same kind q before.view.pairs p.b wb l.second lb l.least_second in
+          let ea = least_word_same kind q before.view.pairs p.a wa l.first la l.least_first in
+          let eb = least_word_same kind q before.view.pairs p.b wb l.second lb l.least_second in
           let same : word ≡ w = is ∙ (ap (λ (x : ℕ). pair_word kind q p x wb) ea ∙ (ap (λ (x : ℕ). pair_word kind q p l.first x) eb ∙ sym l.is)) in
           ⊎_elim (λ (e : word ≡ EMPTY). inl (sym same ∙ e)) (λ h. inr (record { word = word; bound = h; most = let F : ℕ → Type 0 = λ x. word ≤ x in subst F same (le_refl word) })) f.known;
     }

@@ -1,7 +1,7 @@
 -- Where pairs stand in an ordered list, how many a list can have, and those of smaller unions.
 use Rattle.std.proofs.Common.{◌≡◌, ◌≢◌, ◌↔◌, ℕ, ◌+◌, ◌*◌, ◌/◌, ◌%◌, ◌^◌, ◌<◌, ◌≤◌, ◌==◌, inl, inr, nat_lt, Bool, true, false, cond, List, [], ◌∷◌, ◌++◌, All, AllPairs, Contains, map, length, get_or, eqb, refl, sym, subst, ap, ◌∙◌, arith, zero-add, add-mul, mul-le-mul, mul-le-mul_right, eq-eqb, eqb-true}
 use Rattle.std.specs.List.{list_any}
-use Rattle.std.proofs.lemmas.Bool.{cases_lt}
+use Rattle.std.proofs.lemmas.Bool.{cases_lt, lt-ltb}
 use Rattle.std.proofs.lemmas.Bool.Decides.{nat_tests, Decides-eqb}
 use Rattle.std.proofs.lemmas.Nat.{mul-pow, div-mul-add, mod-mul-add}
 use Rattle.std.proofs.Math.Pow.{pow_mono}
@@ -106,10 +106,7 @@ in_below n xs p c = (
     is u e = grind (arith, nat_tests)
 
 pub below_has : (n : ℕ) (xs : List Pair) (p : Pair) → Contains xs p → union_size p < n → Contains (below n xs) p
-below_has n xs p c low = contains_filter (λ r. nat_lt (union_size r) n) xs p c (is (union_size p) low)
-  where
-    is : (u : ℕ) → u < n → nat_lt u n ≡ true
-    is u l = grind (arith, nat_tests)
+below_has n xs p c low = contains_filter (λ r. nat_lt (union_size r) n) xs p c (lt-ltb (union_size p) n low)
 
 pub in_group : (n : ℕ) (xs : List Pair) (p : Pair) → Contains (group_of n xs) p → Contains xs p × (union_size p ≡ n)
 in_group n xs p c = (
@@ -164,10 +161,7 @@ all_below n [] all = refl
 all_below n (x ∷ xs) all =
     let F : Bool → Type 0 = λ b. cond b (x ∷ below n xs) (below n xs) ≡ x ∷ xs in
     let rest = all_below n xs (All-tail (λ p. union_size p < n) x xs all) in
-    subst F (sym (yes (union_size x) (All-head (λ p. union_size p < n) x xs all))) (ap (λ (l : List Pair). x ∷ l) rest)
-  where
-    yes : (u : ℕ) → u < n → nat_lt u n ≡ true
-    yes u l = grind (arith, nat_tests)
+    subst F (sym (lt-ltb (union_size x) n (All-head (λ p. union_size p < n) x xs all))) (ap (λ (l : List Pair). x ∷ l) rest)
 
 pub all_sizes : (xs : List Pair) → AreSmall xs → below SIZES xs ≡ xs
 all_sizes xs small = all_below SIZES xs small

@@ -1,12 +1,11 @@
 -- A whole round.
-use Rattle.std.proofs.Common.{◌≡◌, ℕ, ◌+◌, ◌*◌, ◌<◌, ◌≤◌, List, ◌++◌, All, Contains, length, get_or, take, sym, ap, ◌∙◌, subst, arith, sum_by}
-use Rattle.std.proofs.Math.Seq.{take-append_seam}
-use Rattle.std.proofs.lemmas.List.Elements.{All-get_or, All-from_get_or, Contains-get_or}
+use Rattle.std.proofs.Common.{◌≡◌, ℕ, ◌+◌, ◌*◌, ◌<◌, ◌≤◌, List, ◌++◌, Contains, length, get_or, sym, ap, ◌∙◌, subst, arith, sum_by}
+use Rattle.std.proofs.lemmas.List.Elements.{All-get_or, Contains-get_or}
 use Rattle.dpe_base.specs.declared.pair.Pair.{Pair}
 use Rattle.dpe_base.specs.Queries.{JoinQuery}
 use Rattle.memo_table.specs.declared.TheConstants.{WEIGHT}
 use Rattle.memo_table.specs.declared.view.View.{View}
-use Rattle.memo_table.specs.Seats.{MemoTable, SeatView, IsSeatOf, BoundsAreMade}
+use Rattle.memo_table.specs.Seats.{MemoTable, SeatView, BoundsAreMade}
 use Rattle.memo_table.specs.Views.{times, EachOnceBelow, with_floor}
 use Rattle.dpe_engine.specs.Working.{past, IsDone}
 use Rattle.dpe_engine.specs.Rounds.{IsWorkerSeat, IsSplit, IsGathered, HaveWorked, MayTurn, HasTurned}
@@ -36,10 +35,6 @@ may_still kind memo workers group s t m table {n} view =
     } in
     subst G (sym table) (subst F (sym view) looked_at)
 
--- what a slice of a whole vector writes back
-pub take_front : (n : ℕ) (xs ys : List SeatView) → length xs ≡ n → take n (xs ++ ys) ≡ xs
-take_front n xs ys e = let F : ℕ → Type 0 = λ m. take m (xs ++ ys) ≡ xs in subst F e (take-append_seam xs ys)
-
 module _ (kind : ℕ) (memo : MemoTable) (base workers : ℕ) (group : List Pair) (first split : SeatView) (crew crew' : List SeatView)
     (s : IsSplit memo first split crew workers (length group + 1)) (w : HaveWorked kind base group crew crew') where
   size : length crew' ≡ workers
@@ -49,13 +44,6 @@ module _ (kind : ℕ) (memo : MemoTable) (base workers : ℕ) (group : List Pair
   part k d h =
       let z = size in let q = s.size in let inside : k < length crew = omega arith in
       (inside, All-get_or (IsWorkerSeat memo first (length group + 1)) crew k d inside s.each)
-
-  -- the seats of the crew after the work
-  pub crew_seats : All (IsSeatOf memo) crew'
-  crew_seats = All-from_get_or (IsSeatOf memo) crew' split (λ k h.
-      let p = part k split h in
-      let g = (w.each k split p.0).drawn in
-      record { table = g.table ∙ p.1.seat.table; query = g.query ∙ p.1.seat.query; pairs = g.pairs ∙ p.1.seat.pairs })
 
   sum_weight : sum_by (λ (c : SeatView). c.view.weight) crew' ≡ workers
   sum_weight =

@@ -2,7 +2,7 @@
 use Rattle.std.proofs.Common.{◌≡◌, ℕ, ◌+◌, ◌^◌, ◌<◌, ◌≤◌, ◌*◌, ◌⊎◌, inl, inr, ⊎_elim, min, Bool, List, [], ◌∷◌, ◌++◌, length, take, refl, sym, ap, ◌∙◌, subst, arith, length-append, append_assoc, append-nil, sum_by}
 use Rattle.std.proofs.lemmas.Bool.{cases_lt}
 use Rattle.std.proofs.lemmas.Nat.{mul-pow}
-use Rattle.std.proofs.lemmas.List.{take_all}
+use Rattle.std.proofs.lemmas.List.{take_all, length-take-le}
 use Rattle.std.proofs.lemmas.List.Sums.{sum_by-cons}
 use Rattle.dpe_base.specs.declared.pair.Pair.{Pair}
 use Rattle.dpe_base.specs.Queries.{relations}
@@ -11,10 +11,9 @@ use Rattle.memo_table.specs.Seats.{MemoTable, SeatView}
 use Rattle.reorder_buffer.specs.Buffers.{BufferedPairs}
 use Rattle.reorder_buffer.specs.Groups.{groups, groups_below, runs, rounds}
 use Rattle.reorder_buffer.proofs.RunLaws.{runs-none, taken_is_run}
-use Rattle.dpe_engine.specs.Between.{IsBetween, IsShared, MayWorkBuffer, HasWorkedBuffer, IsFilled, IsRunning, HasEnded, IsPrepared}
-use Rattle.dpe_engine.proofs.Advances.{list_few}
+use Rattle.dpe_engine.specs.Between.{IsBetween, IsShared, HasWorkedBuffer, IsFilled, IsRunning, HasEnded, IsPrepared}
 use Rattle.dpe_engine.proofs.Places.{few_pairs}
-use Rattle.dpe_engine.proofs.Members.{length_take, take_more}
+use Rattle.dpe_engine.proofs.Members.{take_more}
 
 -- the first run of a list that begins with a full buffer, or is a shorter one alone
 first_run : (b : ℕ) (xs ys : List Pair) → 1 ≤ b → 1 ≤ length xs → length xs ≤ b → (length xs < b → ys ≡ []) → runs b (xs ++ ys) ≡ xs ∷ runs b ys
@@ -78,12 +77,6 @@ begins kind memo cards workers buffer first first' second crew capacity s all le
 
 module _ (kind : ℕ) (memo : MemoTable) (cards : RowTable) (workers room pairs buffers turns : ℕ) (left : List Pair) (ended : Bool) (full next : BufferedPairs) (crew : List SeatView) (capacity : ℕ) (s : SeatView)
     (r : IsRunning kind memo cards workers room pairs buffers turns left ended full next crew capacity s) where
-  pub to_work : MayWorkBuffer kind memo cards workers pairs turns full crew capacity s
-  to_work = record { shared = r.shared; next = record { rest = left; is = r.whole }; between = r.between; free = r.free }
-
-  pub buffers_few : buffers ≤ 2 ^ 32
-  buffers_few = let a = r.few in let b = r.inside in let c = list_few memo cards workers r.shared in omega arith
-
   more : take (pairs + length full.pairs) memo.pairs ≡ take pairs memo.pairs ++ full.pairs
   more = take_more pairs memo.pairs full.pairs left r.inside r.whole
 
@@ -92,10 +85,7 @@ module _ (kind : ℕ) (memo : MemoTable) (cards : RowTable) (workers room pairs 
       let a = ap (λ (l : List Pair). length l) r.whole in
       let b = length-append (take pairs memo.pairs) (full.pairs ++ left) in
       let c = length-append full.pairs left in
-      let d = length_take pairs memo.pairs r.inside in omega arith
-
-  pub pairs_few : pairs + length full.pairs ≤ 2 ^ 32
-  pairs_few = let a = fits_list in let b = list_few memo cards workers r.shared in omega arith
+      let d = length-take-le pairs memo.pairs r.inside in omega arith
 
   module _ (turns' : ℕ) (full' : BufferedPairs) (crew' : List SeatView) (capacity' : ℕ) (s' : SeatView) (w : HasWorkedBuffer kind memo workers pairs turns turns' full full' crew' capacity' s') where
     worked : IsBetween kind memo workers (take (pairs + length full.pairs) memo.pairs) turns' s'

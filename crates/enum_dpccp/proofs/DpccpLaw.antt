@@ -10,9 +10,10 @@ use Rattle.pair_stream.specs.Subsets.{least}
 use Rattle.pair_stream.specs.Orders.{Ordered, Complete}
 use Rattle.pair_stream.proofs.Lists.{contains_map, contains_from_map, contains_flat_map, contains_from_flat_map, pairs_map, pairs_flat_map}
 use Rattle.pair_stream.proofs.SubsetLaws.{least_is}
+use Rattle.pair_stream.proofs.ConnectivityLaws.{connected_least}
 use Rattle.pair_stream.proofs.OrderLaws.{MayPrecede, union_not_left, complete_from, ordered_from}
 use Rattle.enum_dpccp.specs.Dpccp.{first_sides, second_sides, excluded, seq_dpccp}
-use Rattle.enum_dpccp.proofs.SideLaws.{FirstOrder, IsSecondSide, first_has, first_order, second_has, second_once, least_of}
+use Rattle.enum_dpccp.proofs.SideLaws.{FirstOrder, IsSecondSide, first_has, first_order, second_has, second_once}
 
 excluded_least : (a r : ℕ) → r ≤ least a → Has (excluded a) r
 excluded_least a r l = union_left (full (suc (least a))) a r (full_has (suc (least a)) r (omega arith))
@@ -30,7 +31,7 @@ module _ (g : JoinGraph) (ok : IsGraph g) where
         crossed = s.crossed;
         least = λ r l. elim (union_cases a b r l.0) [
           | inl h ↦ h
-          | inr h ↦ absurd (s.apart r (excluded_least a r (l.1 (least a) (union_left a b (least a) (least_of g ok a c).0))) h)
+          | inr h ↦ absurd (s.apart r (excluded_least a r (l.1 (least a) (union_left a b (least a) (connected_least g a ok c).0))) h)
         ];
       }
 
@@ -52,7 +53,7 @@ module _ (g : JoinGraph) (ok : IsGraph g) where
       is_first = least_is (union p.a p.b) g.n within ok.few (union_some p.a p.b h.first.some)
 
       own : IsLeast p.a (least p.a)
-      own = least_of g ok p.a h.first
+      own = connected_least g p.a ok h.first
 
       apart : Disjoint (excluded p.a) p.b
       apart r x y =
@@ -89,8 +90,8 @@ module _ (g : JoinGraph) (ok : IsGraph g) where
     λ e. ne (ap (λ p. p.b) e),
     λ builds. elim builds [
       | inl e ↦ union_not_left a c (λ r h k. sc.apart r (excluded_own a r h) k) sc.connected.some e
-      | inr e ↦ sb.apart (least a) (excluded_own a (least a) (least_of g ok a ca).0)
-          (subst (λ s. Has s (least a)) e (union_left a c (least a) (least_of g ok a ca).0))
+      | inr e ↦ sb.apart (least a) (excluded_own a (least a) (connected_least g a ok ca).0)
+          (subst (λ s. Has s (least a)) e (union_left a c (least a) (connected_least g a ok ca).0))
     ],
   )
 
@@ -101,7 +102,7 @@ module _ (g : JoinGraph) (ok : IsGraph g) where
     λ builds. elim builds [
       | inl e ↦ o.0 (λ r h. subst (λ s. Has s r) e (union_left c d r h))
       | inr e ↦ sb.apart (least c) (excluded_least a (least c) o.1)
-          (subst (λ s. Has s (least c)) e (union_left c d (least c) (least_of g ok c cc).0))
+          (subst (λ s. Has s (least c)) e (union_left c d (least c) (connected_least g c ok cc).0))
     ],
   )
 

@@ -1,19 +1,13 @@
 -- The vectors of the list by first sides.
-use Rattle.std.proofs.Common.{◌≡◌, ℕ, refl, List, [], ◌∷◌}
+use Rattle.std.proofs.Common.{◌≡◌, refl, [], ◌∷◌}
 use Rattle.std.specs.Prelude.{length}
 use Rattle.std.specs.Int.Count.{count_trailing_zeros}
-use Rattle.dpe_base.specs.declared.query.Pred.{Pred}
 use Rattle.dpe_base.specs.Sets.{member, union, inter, minus, single, full}
-use Rattle.join_graph.specs.Graphs.{JoinGraph, pair_of, adjacency, adjacent_to, other_end}
+use Rattle.join_graph.proofs.Samples.{edge, graph}
+use Rattle.join_graph.specs.Graphs.{pair_of, adjacency, adjacent_to, other_end}
 use Rattle.pair_stream.specs.Subsets.{least, subsets_after, descending}
 use Rattle.pair_stream.specs.Connectivity.{adjacent_if_member, adjacent_to_members, neighbours}
 use Rattle.enum_dpccp.specs.Dpccp.{extensions, grown_from, first_sides, second_sides, seq_dpccp}
-
-edge : ℕ → ℕ → Pred
-edge a b = record { low = a; high = b; num = 1; den = 1 }
-
-graph : ℕ → List Pred → JoinGraph
-graph n preds = record { n = n; adjacent = adjacency preds }
 
 chain_of_three : seq_dpccp (graph 3 (edge 0 1 ∷ edge 1 2 ∷ [])) ≡ pair_of 2 4 ∷ pair_of 1 2 ∷ pair_of 1 6 ∷ pair_of 3 4 ∷ []
 unfolding graph edge seq_dpccp first_sides second_sides grown_from extensions neighbours adjacent_to_members adjacent_if_member least subsets_after descending member union inter minus single full adjacency adjacent_to other_end count_trailing_zeros

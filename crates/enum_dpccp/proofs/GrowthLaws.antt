@@ -2,6 +2,7 @@
 use Rattle.std.proofs.Common.{◌≡◌, ◌≢◌, ℕ, suc, ◌+◌, ◌-◌, ◌<◌, ◌≤◌, inl, inr, arith, refl, sym, ◌∙◌, ap, subst, List, [], ◌∷◌, ◌++◌, map, append_assoc, append-nil, length, length-append}
 use Rattle.std.specs.List.{Contains, flat_map}
 use Rattle.std.proofs.lemmas.Bool.{cases_eq}
+use Rattle.std.proofs.lemmas.List.{nil_from_length}
 use Rattle.dpe_base.specs.Sets.{Has, Within, Disjoint, IsNextSubset, member, union, minus, full, size}
 use Rattle.dpe_base.proofs.SetLaws.{sets, same_set, empty_has, has_some, union_left, union_right, union_cases, minus_has, minus_left, minus_right, union_within, within_same}
 use Rattle.dpe_base.proofs.NextSubset.{within_le}
@@ -288,12 +289,8 @@ none_left g [] [] e h = (calling_none g [] refl, refl)
 none_left g [] (y ∷ ys) e h = cc
 none_left g (x ∷ xs) now e h = absurd (h (omega arith))
 
-no_calls : (cs : List Call) → length cs ≡ 0 → cs ≡ []
-no_calls [] e = refl
-no_calls (c ∷ cs) e = absurd (omega (arith, e))
-
 pub spare_left : (g : JoinGraph) (c : Call) (cs : List Call) → c.last ≡ c.neighbours → c.neighbours ≡ 0 → length cs ≡ 0 → giving_left g c ++ calling_left g cs ≡ []
-spare_left g c cs e z l = ap (λ ys. ys ++ calling_left g cs) (giving_none g c e z) ∙ calling_none g cs (no_calls cs l)
+spare_left g c cs e z l = ap (λ ys. ys ++ calling_left g cs) (giving_none g c e z) ∙ calling_none g cs (nil_from_length cs l)
 
 -- ---- from one call to the next
 

@@ -11,14 +11,16 @@ use Rattle.dpe_base.specs.declared.TheConstants.{N_MAX}
 use Rattle.dpe_base.specs.Sets.{Has, Within, IsLeast, member, union, inter, minus, single, full}
 use Rattle.dpe_base.proofs.SetLaws.{sets, same_set, empty_has, has_some, single_has, single_one, full_has, full_limit, union_right, minus_left, minus_right}
 use Rattle.join_graph.specs.Graphs.{JoinGraph, IsGraph, Connected}
+use Rattle.join_graph.proofs.GraphLaws.{known_relation}
 use Rattle.pair_stream.specs.Subsets.{least, descending}
 use Rattle.dpe_base.proofs.Members.{contains_head, contains_tail, contains_none}
 use Rattle.pair_stream.proofs.Lists.{passes_from_filter}
 use Rattle.pair_stream.proofs.SubsetLaws.{descending_has}
+use Rattle.pair_stream.proofs.ConnectivityLaws.{connected_least}
 use Rattle.enum_dpccp.specs.Dpccp.{grown_from, all_extensions, neighbours_outside, excluded, first_sides, second_sides}
 use Rattle.enum_dpccp.specs.Sides.{IsGreatest, first_sides_below, second_sides_from}
 use Rattle.enum_dpccp.proofs.Depth.{flat_map_agree, outside_in_graph}
-use Rattle.enum_dpccp.proofs.SideLaws.{least_of, below_graph, first_has}
+use Rattle.enum_dpccp.proofs.SideLaws.{first_has}
 
 -- ---- the greatest member
 
@@ -52,13 +54,13 @@ greatest_by_zeros s b ne =
 -- ---- what a first side excludes
 
 pub least_room : (g : JoinGraph) (a r : ℕ) → IsGraph g → Connected g a → IsLeast a r → r < N_MAX
-least_room g a r ok c l = omega (arith, below_graph g ok a r c l.0, ok.few)
+least_room g a r ok c l = omega (arith, known_relation g a r c l.0, ok.few)
 
 pub excluded_by : (g : JoinGraph) (a r f u : ℕ) → IsGraph g → Connected g a → IsLeast a r → f ≡ full (r + 1) → u ≡ union f a → u ≡ excluded a
 excluded_by g a r f u ok c l ef eu = eu ∙ ap (λ (k : ℕ). union k a) (ef ∙ ap full same)
   where
     same : r + 1 ≡ suc (least a)
-    same = omega (arith, l.1 (least a) (least_of g ok a c).0, (least_of g ok a c).1 r l.0)
+    same = omega (arith, l.1 (least a) (connected_least g a ok c).0, (connected_least g a ok c).1 r l.0)
 
 -- ---- first sides
 

@@ -3,6 +3,7 @@ use Rattle.std.proofs.Common.{◌≡◌, ◌≢◌, ◌↔◌, ℕ, ◌+◌, ◌
 use Rattle.std.specs.List.{AllPairs, Contains, flat_map, filter, range_with_len}
 use Rattle.std.proofs.lemmas.Bool.{cases_eq, cases_Bool, cases_lt, cond-true, cond-false, eq-eqb, ne_eqb, and_parts, and_from, not-true, not_from_false, false_from_ne_true, both_ways, lt-ltb, le-ltb}
 use Rattle.std.proofs.lemmas.List.Elements.{Contains-append_left, Contains-append_right, Contains-append_cases}
+use Rattle.std.proofs.lemmas.List.Kept.{AllPairs-filter}
 use Rattle.dpe_base.specs.declared.pair.Pair.{Pair}
 use Rattle.dpe_base.specs.Sets.{Has, Within, Disjoint, Meets, IsLeast, union, full, size}
 use Rattle.dpe_base.proofs.SetLaws.{union_left, union_right, union_cases, union_comm}
@@ -13,9 +14,9 @@ use Rattle.pair_stream.specs.Connectivity.{adjacent_to_members}
 use Rattle.pair_stream.specs.Subsets.{meets, least}
 use Rattle.pair_stream.specs.Orders.{BuildsSide, Ordered, Complete}
 use Rattle.dpe_base.proofs.Members.{contains_head, contains_tail, contains_none, contains_cases}
-use Rattle.pair_stream.proofs.Lists.{contains_map, contains_from_map, contains_filter, contains_from_filter, passes_from_filter, contains_flat_map, contains_from_flat_map, contains_range, contains_from_range, pairs_nil, pairs_head, pairs_tail, pairs_append, pairs_map, pairs_filter, pairs_flat_map, pairs_range, pairs_weaker}
+use Rattle.pair_stream.proofs.Lists.{contains_map, contains_from_map, contains_filter, contains_from_filter, passes_from_filter, contains_flat_map, contains_from_flat_map, contains_range, contains_from_range, pairs_nil, pairs_head, pairs_tail, pairs_append, pairs_map, pairs_flat_map, pairs_range, pairs_weaker}
 use Rattle.pair_stream.proofs.SubsetLaws.{least_is, meets_true}
-use Rattle.pair_stream.proofs.ConnectivityLaws.{joined_true}
+use Rattle.pair_stream.proofs.ConnectivityLaws.{joined_true, connected_least}
 use Rattle.pair_stream.proofs.OrderLaws.{MayPrecede, complete_from, ordered_from}
 use Rattle.pair_stream.specs.Parts.{part}
 use Rattle.pair_stream.proofs.PartLaws.{IsInPart, part_has, part_once, Differ}
@@ -90,17 +91,14 @@ module _ (g : JoinGraph) (ok : IsGraph g) where
   joinable_back : (x y : ℕ) → Joinable x y → Joinable y x
   joinable_back x y f = record { apart = λ r a b. f.apart r b a; crossed = crossed_back g x y f.crossed }
 
-  least_of : (s : ℕ) → Connected g s → IsLeast s (least s)
-  least_of s c = least_is s g.n c.within ok.few c.some
-
   -- the least relation of the union is the least of the first, where that is the smaller
   pair_least : (a b r : ℕ) → Connected g a → Connected g b → least a ≤ least b → Disjoint a b → IsLeast (union a b) r → Has a r
   pair_least a b r ca cb l d m =
       elim (union_cases a b r m.0) [
         | inl h ↦ h
         | inr h ↦
-            let same : least a ≡ r = omega (arith, m.1 (least a) (union_left a b (least a) (least_of a ca).0), (least_of b cb).1 r h) in
-            subst (Has a) same (least_of a ca).0
+            let same : least a ≡ r = omega (arith, m.1 (least a) (union_left a b (least a) (connected_least g a ok ca).0), (connected_least g b ok cb).1 r h) in
+            subst (Has a) same (connected_least g a ok ca).0
       ]
 
   pair_from : (a b : ℕ) → Connected g a → Connected g b → least a ≤ least b → Joinable a b → Pairs g (pair_of a b)
@@ -205,7 +203,7 @@ module _ (g : JoinGraph) (ok : IsGraph g) where
   with_once : (ys : List ℕ) (x : ℕ) → AllPairs Differ ys → AllPairs Distinct (pairs_with g ys x)
   unfolding pairs_with
   with_once ys x o =
-      pairs_map Distinct Differ (pair_by_least x) (filter (is_joinable g x) ys) (pairs_filter Differ (is_joinable g x) ys o)
+      pairs_map Distinct Differ (pair_by_least x) (filter (is_joinable g x) ys) (AllPairs-filter Differ (is_joinable g x) ys o)
       (λ y z my mz ne e. elim (pair_same x y x z (pair_by_least x y) (pair_by_least x z) (pair_is x y) (pair_is x z) e) [
         | inl h ↦ ne h.1
         | inr h ↦ ne (h.1 ∙ h.0)
@@ -303,8 +301,8 @@ module _ (g : JoinGraph) (ok : IsGraph g) where
 
   first_smaller : (p : Pair) → Pairs g p → least p.a < least p.b
   first_smaller p h =
-      let own : IsLeast p.a (least p.a) = least_of p.a h.first in
-      let other : IsLeast p.b (least p.b) = least_of p.b h.second in
+      let own : IsLeast p.a (least p.a) = connected_least g p.a ok h.first in
+      let other : IsLeast p.b (least p.b) = connected_least g p.b ok h.second in
       let f : IsLeast (union p.a p.b) (least (union p.a p.b)) = least_is (union p.a p.b) g.n within ok.few (union_some p.a p.b h.first.some) in
       let ne : least p.a ≢ least p.b = λ e. h.apart (least p.a) own.0 (subst (Has p.b) (sym e) other.0) in
       omega (

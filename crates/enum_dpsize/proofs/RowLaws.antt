@@ -9,8 +9,8 @@ use Rattle.dpe_base.specs.Sets.{Has, IsLeast, Meets}
 use Rattle.join_graph.specs.Graphs.{JoinGraph, IsGraph, Edge, Crossed, Connected, IsNeighbours}
 use Rattle.pair_stream.specs.Connectivity.{adjacent_to_members}
 use Rattle.pair_stream.specs.Subsets.{meets, least}
-use Rattle.pair_stream.proofs.SubsetLaws.{meets_true, least_is}
-use Rattle.pair_stream.proofs.ConnectivityLaws.{joined_true}
+use Rattle.pair_stream.proofs.SubsetLaws.{meets_true}
+use Rattle.pair_stream.proofs.ConnectivityLaws.{joined_true, connected_least}
 use Rattle.enum_dpsize.specs.Dpsize.{is_joinable, pair_by_least, pairs_with, pairs_after, row_pairs, rows_from, start_at}
 
 pub not_joinable : (g : JoinGraph) (x y : ℕ) → Meets x y → false ≡ is_joinable g x y
@@ -39,7 +39,7 @@ joinable_by g x around y b ok n apart both =
 
 pub least_by : (g : JoinGraph) (x r : ℕ) → IsGraph g → Connected g x → IsLeast x r → r ≡ least x
 least_by g x r ok c l =
-    let m : IsLeast x (least x) = least_is x g.n c.within ok.few c.some in
+    let m : IsLeast x (least x) = connected_least g x ok c in
     omega (arith, l.1 (least x) m.0, m.1 r l.0)
 
 split : (ys : List ℕ) (j y : ℕ) → j < length ys → y ≡ get_or ys j y → drop j ys ≡ y ∷ drop (j + 1) ys

@@ -8,8 +8,8 @@ use Rattle.std.proofs.lemmas.List.Elements.{All-head, All-tail}
 use Rattle.dpe_base.specs.declared.TheConstants.{N_MAX}
 use Rattle.dpe_base.specs.declared.query.Pred.{Pred}
 use Rattle.dpe_base.specs.Queries.{JoinQuery, IsQuery, relations}
-use Rattle.dpe_base.specs.Sets.{Has, Meets, member, union, minus, single}
-use Rattle.dpe_base.proofs.SetLaws.{sets}
+use Rattle.dpe_base.specs.Sets.{Has, Meets, union, minus, single}
+use Rattle.dpe_base.proofs.SetLaws.{sets, empty_has, single_has, single_one, union_left, union_right, union_cases}
 use Rattle.join_graph.specs.Laws.{Ends}
 use Rattle.join_graph.specs.Graphs.{JoinGraph, IsGraph, IsNeighbours, Edge, Crossed, adjacent_to, adjacency, other_end, graph_of}
 
@@ -17,14 +17,11 @@ abbrev pub SomeEnds : List Pred → ℕ → ℕ → Type 0
 SomeEnds [] r s = ⊥
 SomeEnds (p ∷ ps) r s = Ends p r s ⊎ SomeEnds ps r s
 
-single_has : (k s : ℕ) → Has (single k) s ↔ (k ≡ s)
-single_has k s = (λ h. grind (arith, sets), λ e. grind (arith, sets))
+in_single : (k s : ℕ) → Has (single k) s ↔ (k ≡ s)
+in_single k s = (single_one k s, λ e. subst (Has (single k)) e (single_has k))
 
-union_has : (a b s : ℕ) → Has (union a b) s ↔ (Has a s ⊎ Has b s)
-union_has a b s = (λ h. union_cases (cases_eq (member a s) 1) h, λ h. elim h [ inl x ↦ grind (arith, sets) | inr x ↦ grind (arith, sets) ])
-  where
-    union_cases : (member a s ≡ 1) ⊎ (member a s ≡ 1 → ⊥) → Has (union a b) s → Has a s ⊎ Has b s
-    union_cases c h = elim c [ inl x ↦ inl x | inr x ↦ inr (grind (arith, sets)) ]
+in_union : (a b s : ℕ) → Has (union a b) s ↔ (Has a s ⊎ Has b s)
+in_union a b s = (union_cases a b s, λ h. elim h [ inl x ↦ union_left a b s x | inr x ↦ union_right a b s x ])
 
 other_end-low : (r : ℕ) (p : Pred) → p.low ≡ r → other_end r p ≡ single p.high
 unfolding other_end
@@ -41,17 +38,14 @@ other_end-none r p ne nf = rw (ne_eqb p.low r ne, ne_eqb p.high r nf) refl
 other_end_has : (r s : ℕ) (p : Pred) → Has (other_end r p) s ↔ Ends p r s
 other_end_has r s p =
     elim (cases_eq p.low r) [
-      | inl low ↦ (λ h. inl (low, (single_has p.high s).0 (rw (other_end-low r p low) at h)), λ e. rw (other_end-low r p low) ((single_has p.high s).1 (ends_low e low)))
+      | inl low ↦ (λ h. inl (low, (in_single p.high s).0 (rw (other_end-low r p low) at h)), λ e. rw (other_end-low r p low) ((in_single p.high s).1 (ends_low e low)))
       | inr not_low ↦
           elim (cases_eq p.high r) [
-            | inl high ↦ (λ h. inr (high, (single_has p.low s).0 (rw (other_end-high r p not_low high) at h)), λ e. rw (other_end-high r p not_low high) ((single_has p.low s).1 (ends_high e not_low)))
-            | inr not_high ↦ (λ h. absurd (empty_has (rw (other_end-none r p not_low not_high) at h)), λ e. absurd (no_ends e not_low not_high))
+            | inl high ↦ (λ h. inr (high, (in_single p.low s).0 (rw (other_end-high r p not_low high) at h)), λ e. rw (other_end-high r p not_low high) ((in_single p.low s).1 (ends_high e not_low)))
+            | inr not_high ↦ (λ h. absurd (empty_has s (rw (other_end-none r p not_low not_high) at h)), λ e. absurd (no_ends e not_low not_high))
           ]
     ]
   where
-    empty_has : Has 0 s → ⊥
-    empty_has h = grind (arith, sets)
-
     ends_low : Ends p r s → p.low ≡ r → p.high ≡ s
     ends_low e l = elim e [ inl x ↦ x.1 | inr x ↦ x.0 ∙ sym l ∙ x.1 ]
 
@@ -66,17 +60,14 @@ fold_has : (preds : List Pred) (r s acc : ℕ) → Has (fold (λ x p. union x (o
 fold_has [] r s acc = (λ h. inl h, λ h. elim h [ inl x ↦ x | inr x ↦ absurd x ])
 fold_has (p ∷ ps) r s acc = (
   λ h. elim ((fold_has ps r s (union acc (other_end r p))).0 h) [
-    | inl x ↦ elim ((union_has acc (other_end r p) s).0 x) [ inl y ↦ inl y | inr y ↦ inr (inl ((other_end_has r s p).0 y)) ]
+    | inl x ↦ elim ((in_union acc (other_end r p) s).0 x) [ inl y ↦ inl y | inr y ↦ inr (inl ((other_end_has r s p).0 y)) ]
     | inr x ↦ inr (inr x)
   ],
   λ h. (fold_has ps r s (union acc (other_end r p))).1 (elim h [
-    | inl x ↦ inl ((union_has acc (other_end r p) s).1 (inl x))
-    | inr x ↦ elim x [ inl y ↦ inl ((union_has acc (other_end r p) s).1 (inr ((other_end_has r s p).1 y))) | inr y ↦ inr y ]
+    | inl x ↦ inl ((in_union acc (other_end r p) s).1 (inl x))
+    | inr x ↦ elim x [ inl y ↦ inl ((in_union acc (other_end r p) s).1 (inr ((other_end_has r s p).1 y))) | inr y ↦ inr y ]
   ]),
 )
-
-empty_has : (s : ℕ) → Has 0 s → ⊥
-empty_has s h = grind (arith, sets)
 
 adjacent_has : (preds : List Pred) (r s : ℕ) → Has (adjacent_to preds r) s ↔ SomeEnds preds r s
 unfolding adjacent_to

@@ -7,7 +7,7 @@ use Rattle.dpe_base.specs.declared.TheConstants.{N_MAX}
 use Rattle.dpe_base.specs.declared.pair.Pair.{Pair}
 use Rattle.dpe_base.specs.Queries.{JoinQuery, relations, IsQuery}
 use Rattle.dpe_base.specs.Sets.{Has, Within, Disjoint, IsLeast, member, union, full}
-use Rattle.dpe_base.proofs.SetLaws.{sets, member-same, member-above, disjoint_by_inter, some_least}
+use Rattle.dpe_base.proofs.SetLaws.{sets, member-same, member-above, disjoint_by_inter, some_least, least_same}
 use Rattle.dpe_base.proofs.NextSubset.{within_le}
 use Rattle.dpe_base.proofs.SizeLaws.{full_below}
 use Rattle.join_graph.specs.Graphs.{JoinGraph, IsGraph, Edge, Crossed, Connected, Pairs, pair_of, graph_of}
@@ -131,20 +131,13 @@ module _ (g : JoinGraph) (ok : IsGraph g) where
       )
       (both _ _ (not_none s) (both _ _ (below_or_not s (2 ^ g.n)) (all_below (suc s) _ (λ a. all_below (suc s) _ (λ b. cut_decided s a b)))))
 
-  -- the least member of a set is one
-  one_least : (s r k : ℕ) → IsLeast s r → IsLeast s k → r ≡ k
-  one_least s r k x y = omega (arith, x.1 k y.0, y.1 r x.0)
-
   abbrev LeastIn : ℕ → ℕ → Type 0
   LeastIn s a = (r : ℕ) → IsLeast s r → Has a r
 
   least_decided : (s a : ℕ) → s < 2 ^ 32 → s ≢ 0 → Decided (LeastIn s a)
   least_decided s a small some =
       let least : (r : ℕ) × (r < 32) × IsLeast s r = some_least s small some in
-      by_iff (Has a least.0) (LeastIn s a) (λ h r l. subst (Has a) (one_least s least.0 r least.2 l) h, λ f. f least.0 least.2) (has_or_not a least.0)
-
-  abbrev Joined : ℕ → ℕ → Type 0
-  Joined a b = Connected g a × (Connected g b × (Disjoint a b × Crossed g a b))
+      by_iff (Has a least.0) (LeastIn s a) (λ h r l. subst (Has a) (least_same s least.0 r least.2 l) h, λ f. f least.0 least.2) (has_or_not a least.0)
 
   pairs_decided : (a b : ℕ) → Decided (Pairs g (pair_of a b))
   pairs_decided a b =

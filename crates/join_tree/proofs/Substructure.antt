@@ -31,6 +31,10 @@ module _ (q : JoinQuery) (pairs : List Pair) (ok : IsQuery q) (builds : Builds (
       let sum : union p.a p.b ≡ p.a + p.b = union_add p.a p.b in_q.apart in
       (omega (arith, sum, in_q.second.some), omega (arith, sum, in_q.first.some), size-union p.a p.b in_q.apart)
 
+-- a set has one least word
+pub least_word_same : (kind : ℕ) (q : JoinQuery) (pairs : List Pair) (s v w : ℕ) → Least kind q pairs s v → Least kind q pairs s w → v ≡ w
+least_word_same kind q pairs s v w a b = omega (arith, a.least w b.made, b.least v a.made)
+
 -- ---- trees and their words
 
 module _ (kind : ℕ) (q : JoinQuery) (pairs : List Pair) (ok : IsQuery q) (builds : Builds (graph_of q) pairs) where
@@ -128,14 +132,11 @@ module _ (kind : ℕ) (q : JoinQuery) (pairs : List Pair) (ok : IsQuery q) (buil
 
   -- ---- the least word of a pair
 
-  pub least_same : (s v w : ℕ) → Least kind q pairs s v → Least kind q pairs s w → v ≡ w
-  least_same s v w a b = omega (arith, a.least w b.made, b.least v a.made)
-
   least_of_pair_same : (p : Pair) (v w : ℕ) → LeastOfPair kind q pairs p v → LeastOfPair kind q pairs p w → v ≡ w
   least_of_pair_same p v w a b =
       a.is
-      ∙ ap (λ x. best_word kind p.a p.b x a.second (rows q p.a) (rows q p.b) (rows q (union p.a p.b))) (least_same p.a a.first b.first a.least_first b.least_first)
-      ∙ ap (λ y. best_word kind p.a p.b b.first y (rows q p.a) (rows q p.b) (rows q (union p.a p.b))) (least_same p.b a.second b.second a.least_second b.least_second)
+      ∙ ap (λ x. best_word kind p.a p.b x a.second (rows q p.a) (rows q p.b) (rows q (union p.a p.b))) (least_word_same kind q pairs p.a a.first b.first a.least_first b.least_first)
+      ∙ ap (λ y. best_word kind p.a p.b b.first y (rows q p.a) (rows q p.b) (rows q (union p.a p.b))) (least_word_same kind q pairs p.b a.second b.second a.least_second b.least_second)
       ∙ sym b.is
 
   -- a least word of a side costs no more than a cheap tree
@@ -309,7 +310,7 @@ module _ (kind : ℕ) (q : JoinQuery) (pairs : List Pair) (ok : IsQuery q) (buil
       forth least =
           let p : (p : Pair) × Contains pairs p × (union p.a p.b ≡ set_of least.made.tree) = root_pair least.made.tree least.made.made (omega (arith, ap size least.made.over, many)) in
           let x : (v : ℕ) × LeastOverPairs kind q pairs s v = least_over_pairs_exists s (each_has_least s) p.0 p.1 (p.2 ∙ least.made.over) in
-          subst (LeastOverPairs kind q pairs s) (least_same s x.0 w (least_from_pairs s x.0 many (each_has_least s) x.1) least) x.1
+          subst (LeastOverPairs kind q pairs s) (least_word_same kind q pairs s x.0 w (least_from_pairs s x.0 many (each_has_least s) x.1) least) x.1
 
 pub optimal_substructure : OptimalSubstructure
 optimal_substructure kind q pairs ok builds s w many = least_over_pairs kind q pairs ok builds s w many

@@ -2,11 +2,10 @@
 use Rattle.std.proofs.Common.{◌≡◌, ℕ, ◌+◌, ◌<◌, ◌≢◌, Bool, cond, List, [], Contains, sym, refl, ap, ◌∙◌, subst, arith, ⊎_elim, ne_eqb}
 use mathlib.Core.Logic.{dite}
 use native.Mathlib.Decide.{ℕ_discrete}
-use Rattle.std.proofs.lemmas.Nat.{pow_below, pow_pos}
+use Rattle.std.proofs.lemmas.Nat.{pow_below}
 use Rattle.dpe_base.specs.declared.TheConstants.{EMPTY, N_MAX}
 use Rattle.dpe_base.specs.Queries.{relations}
-use Rattle.dpe_base.specs.Sets.{Within, single, full}
-use Rattle.dpe_base.proofs.SetLaws.{sets}
+use Rattle.dpe_base.specs.Sets.{single}
 use Rattle.memo_table.specs.declared.view.View.{View}
 use Rattle.memo_table.specs.declared.view.TreeSpace.{TreeSpace}
 use Rattle.memo_table.specs.Views.{with_bound, with_offer}
@@ -26,15 +25,6 @@ offer_bounds v t w ne = let F : Bool → Type 0 = λ b. cond b v (with_bound v t
 leaf_word_low : (r : ℕ) → r < N_MAX → leaf_word r < EMPTY
 unfolding single
 leaf_word_low r l = let p = pow_below r N_MAX l in omega arith
-
--- a relation alone is no empty set
-pub single_some : (r : ℕ) → single r ≢ 0
-unfolding single
-single_some r e = let p = pow_pos r in omega arith
-
--- a relation of the query is one of its relations
-pub single_within : (r n : ℕ) → r < n → Within (single r) (full n)
-single_within r n l k has = grind (arith, sets)
 
 -- each leaf has its word among the bounds
 pub leaves_settled : (kind : ℕ) (space : TreeSpace) (v : View) → IsTreeSpace space → v.query ≡ space.query → v.pairs ≡ space.pairs → HasLeaves (relations space.query) v

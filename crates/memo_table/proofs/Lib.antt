@@ -6,6 +6,6 @@ mod WordSteps
 mod CounterSteps
 mod SeatSteps
 mod Ending
-mod SeatLaws
+pub mod SeatLaws
 mod Leaves
 mod TwoRelations

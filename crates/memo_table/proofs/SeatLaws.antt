@@ -48,7 +48,7 @@ module _ (kind : ℕ) where
       (λ h. rw (← query, ← pairs) (also b h))
       (Contains-append_cases v.bounds w.bounds b has)
 
-abbrev offer_if : View → ℕ → ℕ → Bool → View
+abbrev pub offer_if : View → ℕ → ℕ → Bool → View
 offer_if v t x b = cond b v (with_bound v t x)
 
 -- an offer changes nothing but the bounds

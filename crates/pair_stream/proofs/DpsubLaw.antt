@@ -2,6 +2,7 @@
 use Rattle.std.proofs.Common.{◌≡◌, ◌↔◌, ℕ, ◌<◌, inl, inr, arith, sym, ◌∙◌, ap, subst, true, false, ◌&&◌, List, [], map, nat_eq}
 use Rattle.std.specs.List.{AllPairs, Contains, filter, range_with_len}
 use Rattle.std.proofs.lemmas.Bool.{cases_Bool, cond-true, cond-false, eqb-true, eq-eqb, and_parts, and_from}
+use Rattle.std.proofs.lemmas.List.Kept.{AllPairs-filter}
 use Rattle.dpe_base.specs.declared.pair.Pair.{Pair}
 use Rattle.dpe_base.specs.Sets.{Has, Within, Disjoint, IsLeast, member, union, minus, full}
 use Rattle.dpe_base.proofs.SetLaws.{sets, same_set, rest_apart, rest_whole, union_left, union_right, least_same}
@@ -13,9 +14,9 @@ use Rattle.pair_stream.specs.Connectivity.{is_connected}
 use Rattle.pair_stream.specs.Orders.{BuildsSide, Ordered, Complete}
 use Rattle.pair_stream.specs.Dpsub.{is_split, splits_of, seq_dpsub}
 use Rattle.dpe_base.proofs.Members.{contains_none}
-use Rattle.pair_stream.proofs.Lists.{contains_map, contains_from_map, contains_filter, contains_from_filter, passes_from_filter, contains_flat_map, contains_from_flat_map, contains_range, pairs_nil, pairs_map, pairs_filter, pairs_flat_map, pairs_range}
-use Rattle.pair_stream.proofs.SubsetLaws.{subsets_has, subsets_ascend, least_is, positive}
-use Rattle.pair_stream.proofs.ConnectivityLaws.{is_connected_true}
+use Rattle.pair_stream.proofs.Lists.{contains_map, contains_from_map, contains_filter, contains_from_filter, passes_from_filter, contains_flat_map, contains_from_flat_map, contains_range, pairs_nil, pairs_map, pairs_flat_map, pairs_range}
+use Rattle.pair_stream.proofs.SubsetLaws.{subsets_has, subsets_ascend, positive}
+use Rattle.pair_stream.proofs.ConnectivityLaws.{is_connected_true, connected_least}
 use Rattle.pair_stream.proofs.OrderLaws.{MayPrecede, builds_itself, complete_from, ordered_from}
 
 rest_of_union : (a b : ℕ) → Disjoint a b → minus (union a b) a ≡ b
@@ -77,7 +78,7 @@ module _ (g : JoinGraph) (ok : IsGraph g) where
         apart = rest_apart s a;
         crossed = x.whole.split a (minus s a) x.first.some x.second.some (rest_apart s a) (rest_whole s a x.within);
         least = λ r l.
-            let same : least s ≡ r = least_same s (least s) r (least_is s g.n x.whole.within ok.few x.whole.some) (subst (λ k. IsLeast k r) (rest_whole s a x.within) l) in
+            let same : least s ≡ r = least_same s (least s) r (connected_least g s ok x.whole) (subst (λ k. IsLeast k r) (rest_whole s a x.within) l) in
             subst (Has a) same x.least;
       }
 
@@ -104,7 +105,7 @@ module _ (g : JoinGraph) (ok : IsGraph g) where
       (contains_map (λ a. pair_of a (minus s a)) (filter (is_split g s) (subsets s)) p.a
       (contains_filter (is_split g s) (subsets s) p.a
       ((subsets_has 0 s p.a).1 (positive p.a h.first.some, λ r m. union_left p.a p.b r m))
-      ((is_split_true s p.a).1 (h.least (least s) (least_is s g.n c.within ok.few c.some), h.first, subst (Connected g) (sym rest) h.second))))))
+      ((is_split_true s p.a).1 (h.least (least s) (connected_least g s ok c), h.first, subst (Connected g) (sym rest) h.second))))))
     where
       s : ℕ
       s = union p.a p.b
@@ -151,7 +152,7 @@ module _ (g : JoinGraph) (ok : IsGraph g) where
       whole c =
           subst (AllPairs MayPrecede) (sym (splits_of_is s c))
           (pairs_map MayPrecede (λ a b. a < b) (λ a. pair_of a (minus s a)) (filter (is_split g s) (subsets s))
-          (pairs_filter (λ a b. a < b) (is_split g s) (subsets s) (subsets_ascend 0 s))
+          (AllPairs-filter (λ a b. a < b) (is_split g s) (subsets s) (subsets_ascend 0 s))
           (λ a b ma mb l. (
             λ e. omega (arith, ap (λ p. p.a) e),
             one_union s (pair_of a (minus s a)) (pair_of b (minus s b)) (made c a ma).0 (made c a ma).1 (made c b mb).1,

@@ -82,30 +82,27 @@ left_more g s l =
     step : suc s + 1 ≡ suc (suc s)
     step = omega arith
 
+one_on : (s t : ℕ) → t ≡ s + 1 → suc s ≡ t
+one_on s t e = omega arith
+
 -- the next set is connected
 pub left_enter : (g : JoinGraph) (s t : ℕ) → IsGraph g → s < full g.n → t ≡ s + 1 → Connected g t → dpsub_left g s s ≡ dpsub_left g t 0
 unfolding dpsub_left splits_of
 left_enter g s t ok l e c =
     left_more g s l
-    ∙ ap (λ k. splits_of g k ++ flat_map (splits_of g) (range_with_len (suc k) (full g.n - k))) (omega_suc s t e)
+    ∙ ap (λ k. splits_of g k ++ flat_map (splits_of g) (range_with_len (suc k) (full g.n - k))) (one_on s t e)
     ∙ ap (λ xs. xs ++ flat_map (splits_of g) (range_with_len (suc t) (full g.n - t)))
     (cond-true (is_connected g t) (map (λ a. pair_of a (minus t a)) (filter (is_split g t) (subsets_after 0 t))) [] ((is_connected_true g t ok).1 c))
-  where
-    omega_suc : (s t : ℕ) → t ≡ s + 1 → suc s ≡ t
-    omega_suc s t e = omega arith
 
 -- the next set is not connected
 pub left_pass : (g : JoinGraph) (s t : ℕ) → IsGraph g → s < full g.n → t ≡ s + 1 → (Connected g t → ⊥) → dpsub_left g s s ≡ dpsub_left g t t
 unfolding splits_of
 left_pass g s t ok l e ne =
     left_more g s l
-    ∙ ap (λ k. splits_of g k ++ flat_map (splits_of g) (range_with_len (suc k) (full g.n - k))) (omega_suc s t e)
+    ∙ ap (λ k. splits_of g k ++ flat_map (splits_of g) (range_with_len (suc k) (full g.n - k))) (one_on s t e)
     ∙ ap (λ xs. xs ++ flat_map (splits_of g) (range_with_len (suc t) (full g.n - t)))
     (cond-false (is_connected g t) (map (λ a. pair_of a (minus t a)) (filter (is_split g t) (subsets_after 0 t))) [] (false_from_ne_true (is_connected g t) (λ h. ne ((is_connected_true g t ok).0 h))))
     ∙ sym (left_over g t)
-  where
-    omega_suc : (s t : ℕ) → t ≡ s + 1 → suc s ≡ t
-    omega_suc s t e = omega arith
 
 -- ---- the test of a split
 

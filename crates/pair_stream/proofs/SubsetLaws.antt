@@ -3,6 +3,7 @@ use Rattle.std.proofs.Common.{◌≡◌, ◌≢◌, ◌↔◌, ℕ, zero, suc, �
 use Rattle.std.specs.List.{AllPairs, Contains, filter, range_with_len}
 use Rattle.std.proofs.lemmas.Bool.{cases_eq, cases_lt, cases_Bool, cond-true, cond-false, eqb-true, eqb-false, eq-eqb, ne_eqb, not-true, not_from_false}
 use Rattle.std.proofs.lemmas.Nat.{pow_pos}
+use Rattle.std.proofs.lemmas.List.Kept.{AllPairs-filter}
 use Rattle.dpe_base.specs.declared.TheConstants.{N_MAX}
 use Rattle.dpe_base.specs.Sets.{Has, Within, Meets, IsLeast, IsNextSubset, inter, full}
 use Rattle.dpe_base.proofs.SetLaws.{member-above, disjoint_by_inter, within_by_inter, least_by_zeros, inter_left, inter_right, full_has, full_limit}
@@ -10,7 +11,7 @@ use Rattle.dpe_base.proofs.NextSubset.{within_le}
 use Rattle.dpe_base.proofs.SizeLaws.{some_member, within_span}
 use Rattle.pair_stream.specs.Subsets.{is_within, meets, subsets_after, least, descending}
 use Rattle.dpe_base.proofs.Members.{contains_head, contains_tail, contains_none, contains_cases}
-use Rattle.pair_stream.proofs.Lists.{contains_filter, contains_from_filter, passes_from_filter, contains_range, contains_from_range, pairs_nil, pairs_cons, pairs_filter, pairs_range}
+use Rattle.pair_stream.proofs.Lists.{contains_filter, contains_from_filter, passes_from_filter, contains_range, contains_from_range, pairs_nil, pairs_cons, pairs_range}
 
 pub is_within_true : (a b : ℕ) → (is_within a b ≡ true) ↔ Within a b
 is_within_true a b =
@@ -41,7 +42,7 @@ subsets_has s whole t = (
 
 pub subsets_ascend : (s whole : ℕ) → AllPairs (λ x y. x < y) (subsets_after s whole)
 unfolding subsets_after
-subsets_ascend s whole = pairs_filter (λ x y. x < y) (λ x. is_within x whole) (range_with_len (suc s) (whole - s)) (pairs_range (suc s) (whole - s))
+subsets_ascend s whole = AllPairs-filter (λ x y. x < y) (λ x. is_within x whole) (range_with_len (suc s) (whole - s)) (pairs_range (suc s) (whole - s))
 
 -- numbers that all fail one of two tests are left out
 filter_skip : (q p : ℕ → Bool) (d a m : ℕ) → ((k : ℕ) → a ≤ k → k < a + d → p k ≡ true → q k ≡ false) → filter q (filter p (range_with_len a (d + m))) ≡ filter q (filter p (range_with_len (a + d) m))

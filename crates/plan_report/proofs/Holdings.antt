@@ -1,14 +1,11 @@
 -- A report that gains an entry holds one more.
-use Rattle.std.proofs.Common.{◌≡◌, List, [], ◌∷◌, ◌++◌, ◌∙◌, sym, ap}
+use Rattle.std.proofs.Common.{List, [], ◌∷◌, ◌++◌, ◌∙◌, sym, ap}
 use Rattle.std.proofs.lemmas.List.{map-append, flat_map_more}
 use Rattle.plan_report.specs.declared.report.Report.{Report}
 use Rattle.plan_report.specs.Entries.{ReportEntry}
 use Rattle.plan_report.specs.Json.{entry_data}
-use Rattle.plan_report.specs.Reports.{text_in, entries_in, Appends, Holds}
+use Rattle.plan_report.specs.Reports.{Appends, Holds}
 use Rattle.plan_report.specs.Texts.{entry_text}
-
-pub holds_none : (r : Report) → text_in r ≡ [] → entries_in r ≡ [] → Holds r []
-holds_none r text entries = record { in_text = λ f. text; in_json = λ f. entries }
 
 pub holds_more : (old new : Report) (entries : List ReportEntry) (e : ReportEntry) → Appends old new e → Holds old entries → Holds new (entries ++ e ∷ [])
 holds_more old new entries e added held =

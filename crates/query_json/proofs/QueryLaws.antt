@@ -5,7 +5,7 @@ use Rattle.std.specs.List.{list_all, prefix_len}
 use Rattle.std.specs.Str.{bytes_eq}
 use Rattle.std.proofs.lemmas.Bool.{cases_Bool, and_parts, le-leb, lt-ltb, le-ltb, ne_eqb}
 use Rattle.std.proofs.lemmas.Bool.Decides.{nat_tests}
-use Rattle.std.proofs.lemmas.Option.{option_and_then_some}
+use Rattle.std.proofs.lemmas.Option.{option_and_then_some, same_Some}
 use Rattle.std.proofs.lemmas.Slice.Eq.{bytes_eq-Decides}
 use Rattle.std.proofs.lemmas.List.Quantifiers.{position-Some}
 use Rattle.std.proofs.lemmas.List.Elements.{All-head, All-tail}
@@ -29,10 +29,7 @@ use Rattle.query_json.specs.declared.scope.Ends.{Ends}
 use Rattle.query_json.specs.Columns.{distinct_in}
 use Rattle.query_json.specs.Limits.{IsColumnWithin, IsQueryWithin, IsTableWithin}
 use Rattle.query_json.specs.Queries.{aliases_of, all_of, apart, checked, count_named, count_of, ends_of, filter_of, found, fraction_at, most_distinct, pred_of, query_of, rel_of, relation_number, selectivity_of, sized, table_named, table_of}
-use Rattle.query_json.proofs.Binds.{bind_ok}
-
-ok_same : {X : Type 0} (x y : X) → ◌≡◌ {A = Result X QueryRefusal} (Ok x) (Ok y) → x ≡ y
-ok_same x y e = cc
+use Rattle.query_json.proofs.Binds.{bind_ok, ok_same}
 
 length-all_of : {A B : Type 0} (f : ℕ → A → Result B QueryRefusal) (at : ℕ) (xs : List A) (ys : List B) → all_of f at xs ≡ Ok ys → length ys ≡ length xs
 length-all_of f at [] ys e = ap length (sym (ok_same [] ys e))
@@ -62,14 +59,11 @@ prefix_whole test (x ∷ xs) all =
 none_fails : {X : Type 0} (test : X → Bool) (xs : List X) → list_all test xs ≡ true → position (λ x. not (test x)) xs ≡ None
 none_fails test xs all = rw (prefix_whole test xs all, le-ltb (length xs) (length xs) (omega arith)) refl
 
-some_same : {X : Type 0} (x y : X) → Some x ≡ Some y → x ≡ y
-some_same x y e = cc
-
 find_within : {X : Type 0} (P : X → Type 0) (test : X → Bool) (xs : List X) (x : X) → All P xs → find test xs ≡ Some x → P x
 find_within P test [] x all e = absurd cc
 find_within P test (y ∷ ys) x all e =
     elim (cases_Bool (test y)) [
-      | inl holds ↦ subst P (some_same y x (rw holds at e)) (All-head P y ys all)
+      | inl holds ↦ subst P (same_Some y x (rw holds at e)) (All-head P y ys all)
       | inr fails ↦ find_within P test ys x (All-tail P y ys all) (rw fails at e)
     ]
 
@@ -125,7 +119,7 @@ distinct_within : (name : List ℕ) (cs : List Column) (n : ℕ) → All IsColum
 distinct_within name [] n all e = absurd cc
 distinct_within name (c ∷ cs) n all e =
     elim (cases_Bool (bytes_eq name c.name)) [
-      | inl holds ↦ omega (arith, All-head IsColumnWithin c cs all, some_same c.distinct n (rw holds at e))
+      | inl holds ↦ omega (arith, All-head IsColumnWithin c cs all, same_Some c.distinct n (rw holds at e))
       | inr fails ↦ distinct_within name cs n (All-tail IsColumnWithin c cs all) (rw fails at e)
     ]
 

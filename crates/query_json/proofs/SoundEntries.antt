@@ -16,13 +16,10 @@ use Rattle.query_json.specs.Queries.{named, named_of, or_disconnected, query_of}
 use Rattle.query_json.specs.Sound.{IsEntrySound, IsPartSound, IsSound}
 use Rattle.query_json.specs.Unreached.{first_unreached}
 use Rattle.query_json.specs.Walk.{file_of, json_at}
-use Rattle.query_json.proofs.Binds.{bind_ok}
+use Rattle.query_json.proofs.Binds.{bind_ok, ok_same}
 use Rattle.query_json.proofs.QueryLaws.{query_valid}
 use Rattle.query_json.proofs.UnreachedLaws.{first_unreached_is}
 use Rattle.query_json.proofs.WalkLaws.{given_within}
-
-ok_same : {A E : Type 0} (x y : A) → ◌≡◌ {A = Result A E} (Ok x) (Ok y) → x ≡ y
-ok_same x y e = cc
 
 none_unreached : (rs : List RelationItem) (o : Option ℕ) (u : Unit {0}) → or_disconnected rs o ≡ Ok u → o ≡ None
 none_unreached rs None u e = refl

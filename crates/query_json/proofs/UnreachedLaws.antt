@@ -11,7 +11,7 @@ use Rattle.std.proofs.lemmas.Option.{get_or_from_slice_get, slice_get-get_or, sl
 use Rattle.dpe_base.specs.declared.query.Pred.{Pred}
 use Rattle.dpe_base.specs.Queries.{JoinQuery, IsQuery, relations}
 use Rattle.dpe_base.specs.Sets.{Has, Within, Disjoint, member, union, minus, single, full}
-use Rattle.dpe_base.proofs.SetLaws.{sets, same_set, member-same, member-minus, member-above}
+use Rattle.dpe_base.proofs.SetLaws.{sets, same_set, member-same, member-minus, member-above, full_has, union_comm}
 use Rattle.dpe_base.proofs.NextSubset.{within_le}
 use Rattle.dpe_base.proofs.SizeLaws.{some_member, union_add, full_below}
 use Rattle.join_graph.specs.Graphs.{Edge, Crossed, Connected, IsFirstUnreached, Reached, start, step, graph_of}
@@ -152,9 +152,6 @@ grow q r ok none (suc k) s l w first all =
     grow_has : (e : Leads q s) (t : ℕ) → Has s t → Has (union s (single e.to)) t
     grow_has e t h = grind (arith, sets)
 
-    known_full : (n t : ℕ) → t < n → Has (full n) t
-    known_full n t lt = grind (arith, sets)
-
     is_new : (e : Leads q s) (t : ℕ) → Has (union s (single e.to)) t → member s t ≢ 1 → e.to ≡ t
     is_new e t h new = grind (arith, sets)
 
@@ -162,7 +159,7 @@ grow q r ok none (suc k) s l w first all =
     grow_within e t h =
         elim (cases_eq (member s t) 1) [
           | inl old ↦ w t old
-          | inr new ↦ subst (Has (full (relations q))) (is_new e t h new) (known_full (relations q) e.to ((graph_is q ok).known e.from e.to e.edge).1)
+          | inr new ↦ subst (Has (full (relations q))) (is_new e t h new) (full_has (relations q) e.to ((graph_is q ok).known e.from e.to e.edge).1)
         ]
 
     all_more : (e : Leads q s) (t : ℕ) → Has (union s (single e.to)) t → Reached (graph_of q) 0 t
@@ -316,7 +313,7 @@ all_connected q ok all =
             | inl in_a ↦ walk_crosses q a b y.0 ok d u in_a y.1 (all y.0 (known b y.0 (λ t h. in_right a b t u h) y.1))
             | inr out ↦
                 crossed_back (graph_of q) b a
-                (walk_crosses q b a x.0 ok (λ t h k. d t k h) (turned a b ∙ u) (zero_right a b u out) x.1 (all x.0 (known a x.0 (λ t h. in_left a b t u h) x.1)))
+                (walk_crosses q b a x.0 ok (λ t h k. d t k h) (union_comm b a ∙ u) (zero_right a b u out) x.1 (all x.0 (known a x.0 (λ t h. in_left a b t u h) x.1)))
           ];
     }
   where
@@ -337,9 +334,6 @@ all_connected q ok all =
 
     zero_right : (a b : ℕ) → union a b ≡ full (relations q) → member a 0 ≢ 1 → Has b 0
     zero_right a b u out = grind (arith, sets, member-same u 0, ok.some)
-
-    turned : (a b : ℕ) → union b a ≡ union a b
-    turned a b = same_set _ _ (λ r. grind (arith, sets))
 
 -- none is unreached exactly where the graph is connected, and else the first is the least that no walk reaches
 pub first_unreached_is : FirstUnreachedByWalks

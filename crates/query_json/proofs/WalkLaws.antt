@@ -3,6 +3,7 @@ use Rattle.std.proofs.Common.{◌≡◌, ◌+◌, ◌≤◌, ℕ, List, [], ◌�
 use Rattle.std.specs.Prelude.{codes, option_and_then}
 use Rattle.std.proofs.lemmas.Bool.{leb-true}
 use Rattle.std.proofs.lemmas.List.Elements.{All-cons, All-nil}
+use Rattle.std.proofs.lemmas.Option.{same_Some}
 use Rattle.serde_json.specs.Data.{Data, Items, no_items, item}
 use Rattle.serde_json.specs.Find.{as_array, as_number, as_u64, get}
 use Rattle.dpe_base.specs.declared.TheConstants.{INPUT_CAP, PREDS_MAX}
@@ -18,13 +19,7 @@ use Rattle.query_json.specs.declared.place.Place.{Place}
 use Rattle.query_json.specs.Answer.{Gives}
 use Rattle.query_json.specs.Limits.{IsColumnWithin, IsTableWithin, IsQueryWithin, IsFileWithin}
 use Rattle.query_json.specs.Walk.{as_list, as_name, as_whole, column_at, columns_at, each, each_given, file_at, item_count, join_at, joins_at, object_at, optional, or_shape, place, present, query_at, relation_at, required, table_at, version_at, where_present}
-use Rattle.query_json.proofs.Binds.{bind_ok, kept}
-
-ok_same : {X E : Type 0} (x y : X) → ◌≡◌ {A = Result X E} (Ok x) (Ok y) → x ≡ y
-ok_same x y e = cc
-
-some_same : {X : Type 0} (x y : X) → Some x ≡ Some y → x ≡ y
-some_same x y e = cc
+use Rattle.query_json.proofs.Binds.{bind_ok, ok_same, kept}
 
 each_all : {X : Type 0} (P : X → Type 0) (f : ℕ → Data → Result X FileFault) → ((at : ℕ) (d : Data) (x : X) → f at d ≡ Ok x → P x) → (at : ℕ) (ds : Items) (xs : List X) → each f at ds ≡ Ok xs → All P xs
 each_all P f h at no_items xs e = subst (All P) (ok_same [] xs e) (All-nil P)
@@ -55,7 +50,7 @@ list_within : (limit : ℕ) (p : Place) (m : Option Data) (ds : Items) → where
 list_within limit p None ds e = absurd cc
 list_within limit p (Some d) ds e =
     let a = bind_ok (or_shape p (as_list limit d)) _ (Some ds) e in
-    let same : a.0 ≡ ds = some_same a.0 ds (ok_same (Some a.0) (Some ds) a.2) in
+    let same : a.0 ≡ ds = same_Some a.0 ds (ok_same (Some a.0) (Some ds) a.2) in
     rw (← same) (leb-true (item_count a.0) limit (kept (λ k. nat_le (item_count k) limit) (as_array d) a.0 (shape_some p (as_list limit d) a.0 a.1)))
 
 column_within : (i j : ℕ) (d : Data) (c : Column) → column_at i j d ≡ Ok c → IsColumnWithin c

@@ -1,13 +1,13 @@
 -- Prefixes of the ascending list of a set, by the digits of its number.
-use Rattle.std.proofs.Common.{◌≡◌, ◌≢◌, ℕ, zero, suc, ◌+◌, ◌-◌, ◌*◌, ◌%◌, ◌^◌, ◌<◌, ◌≤◌, List, [], ◌∷◌, ◌++◌, length, take, refl, sym, ◌∙◌, ap, subst, arith, inl, inr, ◌⊎◌, append_assoc, add-one, length-append, ◌↔◌}
+use Rattle.std.proofs.Common.{◌≡◌, ◌≢◌, ℕ, zero, suc, ◌+◌, ◌-◌, ◌*◌, ◌%◌, ◌^◌, ◌<◌, ◌≤◌, List, [], ◌∷◌, ◌++◌, length, take, refl, sym, ◌∙◌, ap, subst, arith, inl, inr, ◌⊎◌, append_assoc, add-one, ◌↔◌}
 use Rattle.std.specs.Int.RustNames.{bit_and}
 use Rattle.std.specs.Int.Count.{count_trailing_zeros}
 use Rattle.std.proofs.lemmas.Bool.{cases_eq, cases_lt, ne_eqb}
 use Rattle.std.proofs.lemmas.List.{take-append-le}
 use Rattle.std.proofs.lemmas.Nat.{one_shl}
-use Rattle.dpe_base.specs.Sets.{member, Has, IsLeast, union, inter, full, single, size, alone, members, members_below}
+use Rattle.dpe_base.specs.Sets.{member, Has, IsLeast, inter, full, size, alone, members, members_below}
 use Rattle.dpe_base.proofs.SetLaws.{sets, same_set, member-bound, member-above, member-empty, member-inter, least_by_zeros, inter_lt}
-use Rattle.dpe_base.proofs.SizeLaws.{size-union, size-single, size-empty}
+use Rattle.dpe_base.proofs.SizeLaws.{counted}
 use Rattle.dpe_base.proofs.ListOrder.{alone-member, alone-other, split_at, between_first, between, between_cases, FirstIn, from_k, first_of, first_digit, same_below, same_by_xor}
 use Rattle.skip_vector.specs.Skips.{first_relations, up_to, blocking_prefix}
 
@@ -16,34 +16,18 @@ unfoldable pub HasIn : ℕ → List ℕ → Type 0
 HasIn x [] = ⊥
 HasIn x (r ∷ rs) = (member x r ≡ 1) ⊎ HasIn x rs
 
--- how many members are below k
-pub members-length : (k s : ℕ) → length (members_below k s) ≡ size (inter s (full k))
-unfolding members_below
-members-length zero s =
-    let e : inter s (full 0) ≡ 0 = same_set _ _ (λ r. grind (arith, sets)) in
-    sym (ap size e ∙ size-empty)
-members-length (suc k) s =
-    elim (cases_eq (member s k) 1) [
-      | inl is ↦
-          rw (alone-member s k is) (omega (arith, length-append (members_below k s) (k ∷ []), members-length k s, ap size (more s k is), size-union (inter s (full k)) (single k) (apart s k), size-single k))
-      | inr other ↦
-          let none : member s k ≡ 0 = omega (arith, member-bound s k) in
-          rw (alone-other s k none) (omega (arith, length-append (members_below k s) [], members-length k s, ap size (same s k none)))
-    ]
-  where
-    more : (s k : ℕ) → member s k ≡ 1 → inter s (full (suc k)) ≡ union (inter s (full k)) (single k)
-    more s k is = same_set _ _ (λ r. grind (arith, sets))
-
-    same : (s k : ℕ) → member s k ≡ 0 → inter s (full (suc k)) ≡ inter s (full k)
-    same s k none = same_set _ _ (λ r. grind (arith, sets))
-
-    apart : (s k : ℕ) → (r : ℕ) → Has (inter s (full k)) r → Has (single k) r → ⊥
-    apart s k r a b = grind (arith, sets)
-
 -- what `len_below` computes
 pub below_by_mask : (s end : ℕ) → end ≤ 32 → size (bit_and s (1 * 2 ^ end % 18446744073709551616 - 1)) ≡ size (inter s (full end))
 unfolding inter full
 below_by_mask s end l = rw (one_shl end 64 (omega arith)) refl
+
+pub up_to_here : (x r : ℕ) (rs : List ℕ) → Has x r → up_to x (r ∷ rs) ≡ r ∷ []
+unfolding up_to
+up_to_here x r rs e = rw e refl
+
+pub up_to_later : (x r : ℕ) (rs : List ℕ) → member x r ≢ 1 → up_to x (r ∷ rs) ≡ r ∷ up_to x rs
+unfolding up_to
+up_to_later x r rs ne = rw (ne_eqb (member x r) 1 ne) refl
 
 -- two lists with one front have the same first elements as far as that goes
 take_same : (a r s : List ℕ) (p : ℕ) → p ≤ length a → take p (a ++ r) ≡ take p (a ++ s)
@@ -65,7 +49,7 @@ first_until : (a b k p : ℕ) → k < 32 → FirstIn a b k → (p ≤ size (inte
 first_until a b k p l f =
     let n : k + suc (31 - k) ≡ 32 = omega arith in
     let m : (members a ≡ members_below k a ++ (k ∷ between (suc k) (31 - k) a)) × (members b ≡ members_below k a ++ between (suc k) (31 - k) b) = from_k a b k (31 - k) n f in
-    let len : length (members_below k a) ≡ size (inter a (full k)) = members-length k a in
+    let len : length (members_below k a) ≡ size (inter a (full k)) = counted k a in
     let rest : (between (suc k) (31 - k) b ≡ []) ⊎ ((x : ℕ) × (xs : List ℕ) × (k < x) × (between (suc k) (31 - k) b ≡ x ∷ xs)) = elim (between_cases (31 - k) (suc k) b) [
       | inl none ↦ inl none.0
       | inr first ↦ inr (first.0, first.1, omega (arith, first.2), first.4)
@@ -80,7 +64,7 @@ first_until a b k p l f =
 -- the same from the other side
 first_until_back : (a b k p : ℕ) → k < 32 → FirstIn b a k → (p ≤ size (inter a (full k))) ↔ (first_relations p a ≡ first_relations p b)
 first_until_back a b k p l f =
-    let e : size (inter a (full k)) ≡ size (inter b (full k)) = sym (members-length k a) ∙ ap length (sym (same_below k b a f.below)) ∙ members-length k b in
+    let e : size (inter a (full k)) ≡ size (inter b (full k)) = sym (counted k a) ∙ ap length (sym (same_below k b a f.below)) ∙ counted k b in
     let h : (p ≤ size (inter b (full k))) ↔ (first_relations p b ≡ first_relations p a) = first_until b a k p l f in
     (λ le. sym (h.0 (omega arith)), λ q. omega (arith, h.1 (sym q)))
 
@@ -104,7 +88,7 @@ up_to_front (suc k) s x l h =
           rw (alone-member s k is)
           (ap (up_to x) (append_assoc (members_below k s) (k ∷ []) l)
           ∙ up_to_front k s x (k ∷ l) (λ j lt. h j (omega arith))
-          ∙ ap (λ r. members_below k s ++ r) (up_to_other x k l (h k (omega arith) is))
+          ∙ ap (λ r. members_below k s ++ r) (up_to_later x k l (h k (omega arith) is))
           ∙ sym (append_assoc (members_below k s) (k ∷ []) (up_to x l)))
       | inr other ↦
           rw (alone-other s k (omega (arith, member-bound s k)))
@@ -112,13 +96,6 @@ up_to_front (suc k) s x l h =
           ∙ up_to_front k s x l (λ j lt. h j (omega arith))
           ∙ sym (append_assoc (members_below k s) [] (up_to x l)))
     ]
-  where
-    up_to_other : (x k : ℕ) (l : List ℕ) → member x k ≢ 1 → up_to x (k ∷ l) ≡ k ∷ up_to x l
-    up_to_other x k l ne = rw (ne_eqb (member x k) 1 ne) refl
-
-up_to_first : (x k : ℕ) (l : List ℕ) → Has x k → up_to x (k ∷ l) ≡ k ∷ []
-unfolding up_to
-up_to_first x k l h = rw h refl
 
 -- the list of a set that has k, cut there
 members_cut : (s k : ℕ) → k < 32 → Has s k → members s ≡ members_below k s ++ (k ∷ between (suc k) (31 - k) s)
@@ -137,12 +114,12 @@ blocking_is s x l ne =
     let clean : (j : ℕ) → j < k → Has s j → member x j ≢ 1 = λ j lt h e. absurd (omega (arith, z.1.1 j (omega (arith, member-inter s x j)))) in
     let step : members_below (k + 1) s ≡ members_below k s ++ (k ∷ []) = rw (add-one, alone-member s k is) refl in (
       z.0,
-      ap (up_to x) (members_cut s k z.0 is) ∙ up_to_front k s x _ clean ∙ ap (λ r. members_below k s ++ r) (up_to_first x k _ ix) ∙ sym step,
+      ap (up_to x) (members_cut s k z.0 is) ∙ up_to_front k s x _ clean ∙ ap (λ r. members_below k s ++ r) (up_to_here x k _ ix) ∙ sym step,
     )
 
 -- what `blocking_len` computes
 pub blocking-length : (s x : ℕ) → s < 2 ^ 32 → inter s x ≢ 0 → length (blocking_prefix x s) ≡ size (inter s (full (count_trailing_zeros 32 (inter s x) + 1)))
-blocking-length s x l ne = ap length (blocking_is s x l ne).1 ∙ members-length (count_trailing_zeros 32 (inter s x) + 1) s
+blocking-length s x l ne = ap length (blocking_is s x l ne).1 ∙ counted (count_trailing_zeros 32 (inter s x) + 1) s
 
 -- ---- a set that meets x has a relation of its list in x, and the other way round
 
@@ -213,7 +190,7 @@ blocking_some s x l ne = up_to_some x (members s) (hasin_from s x l ne)
 pub members-size : (s : ℕ) → s < 2 ^ 32 → length (members s) ≡ size s
 members-size s l =
     let e : inter s (full 32) ≡ s = same_set _ _ (λ r. whole s r (member-above s 32 r l)) in
-    members-length 32 s ∙ ap size e
+    counted 32 s ∙ ap size e
   where
     whole : (s r : ℕ) → (32 ≤ r → member s r ≡ 0) → member (inter s (full 32)) r ≡ member s r
     whole s r h = grind (arith, sets)

@@ -1,28 +1,20 @@
 -- A scan by skips looks at each free entry and at the first entry of each blocking prefix.
-use Rattle.std.proofs.Common.{◌≡◌, ◌≢◌, ◌↔◌, IsTrue, ℕ, zero, suc, ◌+◌, ◌-◌, ◌<◌, ◌≤◌, ◌^◌, List, [], ◌∷◌, ◌++◌, length, take, slice_index, Bool, true, false, ◌||◌, if◌then◌else◌, refl, sym, ◌∙◌, ap, subst, arith, inl, inr, ◌⊎◌, nat_cmp, add-suc, add-zero, get_or, Vec}
+use Rattle.std.proofs.Common.{◌≡◌, ◌≢◌, ◌↔◌, IsTrue, ℕ, zero, suc, ◌+◌, ◌-◌, ◌<◌, ◌≤◌, ◌^◌, List, [], ◌∷◌, ◌++◌, length, take, slice_index, true, false, if◌then◌else◌, refl, sym, ◌∙◌, ap, subst, arith, inl, inr, ◌⊎◌, nat_cmp, add-suc, add-zero, get_or, Vec}
 use Rattle.std.specs.Cmp.Lexicographic.{slice_cmp}
 use Rattle.std.specs.Cmp.{nat_cmp_is}
 use Rattle.std.specs.Ordering.{ordering_then}
 use Rattle.std.specs.declared.cmp.Ordering.TheVariants.{Less, Equal, Greater}
-use Rattle.std.proofs.lemmas.Bool.{cases_eq, cases_lt, ne_eqb, eq-eqb}
+use Rattle.std.proofs.lemmas.Bool.{cases_eq, cases_lt, ne_eqb, eq-eqb, false_from_ne_true, or_right, true≢false}
 use Rattle.dpe_base.specs.Sets.{member, Meets, inter, members, list_order}
 use Rattle.std.specs.declared.alloc.Global.{Global}
 use Rattle.std.proofs.Math.ListN.{get_or-append}
 use Rattle.std.proofs.lemmas.List.{get_or_push}
 use Rattle.dpe_base.proofs.SetLaws.{disjoint_by_inter, meets_by_inter}
 use Rattle.dpe_base.proofs.ListOrder.{order_same}
-use Rattle.skip_vector.proofs.PrefixLaws.{HasIn, hasin_from, hasin_meets}
+use Rattle.skip_vector.proofs.PrefixLaws.{HasIn, hasin_from, hasin_meets, up_to_here, up_to_later}
 use Rattle.skip_vector.specs.Skips.{first_relations, up_to, blocking_prefix, is_free, IsPart, IsAfter, same_list, has_blocking_prefix, is_probed, probes, NoneFree, IsFirstFree, IsColumn, IsProbed}
 
 -- ---- lists
-
-up_to_here : (x r : ℕ) (rs : List ℕ) → member x r ≡ 1 → up_to x (r ∷ rs) ≡ r ∷ []
-unfolding up_to
-up_to_here x r rs e = rw e refl
-
-up_to_later : (x r : ℕ) (rs : List ℕ) → member x r ≢ 1 → up_to x (r ∷ rs) ≡ r ∷ up_to x rs
-unfolding up_to
-up_to_later x r rs ne = rw (ne_eqb (member x r) 1 ne) refl
 
 -- it is a front of the list
 up_to-take : (x : ℕ) (rs : List ℕ) → take (length (up_to x rs)) rs ≡ up_to x rs
@@ -111,11 +103,7 @@ pub blocking_new : (part : List ℕ) (x : ℕ) (p : List ℕ) (from n : ℕ) →
 unfolding has_blocking_prefix
 blocking_new part x p from zero h = refl
 blocking_new part x p from (suc n) h =
-    rw (blocking_new part x p from n (λ m l. h m (omega arith))) (none (same_list (blocking_prefix x (slice_index part (from + n))) p) (λ t. h n (omega arith) (same_list-true _ p t)))
-  where
-    none : (b : Bool) → (b ≡ true → ⊥) → b ≡ false
-    none true h = absurd (h refl)
-    none false h = refl
+    rw (blocking_new part x p from n (λ m l. h m (omega arith))) (false_from_ne_true (same_list (blocking_prefix x (slice_index part (from + n))) p) (λ t. h n (omega arith) (same_list-true _ p t)))
 
 -- a place before has it
 blocking_old : (part : List ℕ) (x : ℕ) (p : List ℕ) (from n m : ℕ) → m < n → blocking_prefix x (slice_index part (from + m)) ≡ p → has_blocking_prefix part x p from n ≡ true
@@ -127,21 +115,13 @@ blocking_old part x p from (suc n) m l e =
       | inr ge ↦
           let k : m ≡ n = omega arith in
           let f : blocking_prefix x (slice_index part (from + n)) ≡ p = ap (λ j. blocking_prefix x (slice_index part (from + j))) (sym k) ∙ e in
-          rw (f, same_list-self p) (or_true (has_blocking_prefix part x p from n))
+          rw (f, same_list-self p) (or_right (has_blocking_prefix part x p from n) true refl)
     ]
-  where
-    or_true : (b : Bool) → (b || true) ≡ true
-    or_true true = refl
-    or_true false = refl
 
 pub probed_first : (part : List ℕ) (from x n : ℕ) → ((m : ℕ) → m < n → blocking_prefix x (slice_index part (from + m)) ≢ blocking_prefix x (slice_index part (from + n))) → is_probed part from x n ≡ true
 unfolding is_probed
 probed_first part from x n h =
-    rw (blocking_new part x (blocking_prefix x (slice_index part (from + n))) from n h) (or_true (is_free x (slice_index part (from + n))))
-  where
-    or_true : (b : Bool) → (b || true) ≡ true
-    or_true true = refl
-    or_true false = refl
+    rw (blocking_new part x (blocking_prefix x (slice_index part (from + n))) from n h) (or_right (is_free x (slice_index part (from + n))) true refl)
 
 pub probed_free : (part : List ℕ) (from x n : ℕ) → inter (slice_index part (from + n)) x ≡ 0 → is_probed part from x n ≡ true
 unfolding is_probed
@@ -156,13 +136,10 @@ pub probed_iff : (part : List ℕ) (from x n : ℕ) → IsTrue (is_probed part f
 probed_iff part from x n = (
   λ t. elim (cases_eq (inter (slice_index part (from + n)) x) 0) [
     | inl free ↦ inl free
-    | inr ne ↦ inr (λ m l e. true_false (sym t ∙ probed_not part from x n m l ne e))
+    | inr ne ↦ inr (λ m l e. true≢false (sym t ∙ probed_not part from x n m l ne e))
   ],
   λ p. elim p [ inl free ↦ probed_free part from x n free | inr first ↦ probed_first part from x n first ],
 )
-  where
-    true_false : true ≡ false → ⊥
-    true_false e = cc
 
 -- ---- how many are probed
 

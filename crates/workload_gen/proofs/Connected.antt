@@ -1,6 +1,6 @@
 -- A query of a sample is connected: each relation but the first is joined with an earlier one.
 use Rattle.std.proofs.Common.{◌≡◌, ◌≢◌, ◌∙◌, ℕ, zero, suc, ◌+◌, ◌<◌, ◌==◌, ◌&&◌, Bool, true, false, List, [], ◌∷◌, ◌++◌, length, None, refl, sym, ap, arith, inl, inr}
-use Rattle.std.proofs.lemmas.Bool.{eqb-true}
+use Rattle.std.proofs.lemmas.Bool.{eqb-true, and_parts}
 use Rattle.std.proofs.lemmas.Bool.Decides.{eqb_tells}
 use Rattle.std.proofs.lemmas.List.Folds.{list_any_none}
 use Rattle.std.specs.Prelude.{find}
@@ -19,14 +19,6 @@ IsPredOf join p = HasEnds join.left join.right p
 -- no predicate leads out of the set
 abbrev closed_by : ℕ → List Pred → Bool
 closed_by s preds = list_all (λ p. member s p.low == member s p.high) preds
-
-left_true : (a b : Bool) → (a && b) ≡ true → a ≡ true
-left_true true b h = refl
-left_true false b h = absurd cc
-
-right_true : (a b : Bool) → (a && b) ≡ true → b ≡ true
-right_true true b h = h
-right_true false b h = absurd cc
 
 -- the set has relation i where it has the smaller ones
 next_reached : (s i : ℕ) (join : Join) (p : Pred) → IsTreeJoin i join → IsPredOf join p → (member s p.low == member s p.high) ≡ true
@@ -48,8 +40,8 @@ tree_reached : (s i : ℕ) (tree extra : List Join) (preds : List Pred) → Each
 tree_reached s i [] extra preds h e closed before k below = before k (omega arith)
 tree_reached s i (j ∷ tree) extra [] h e closed before k below = absurd e
 tree_reached s i (j ∷ tree) extra (p ∷ preds) h e closed before k below =
-    let here : Has s i = next_reached s i j p h.0 e.0 (left_true _ _ closed) before in
-    tree_reached s (i + 1) tree extra preds h.1 e.1 (right_true _ _ closed) (up_to s i before here) k (omega arith)
+    let here : Has s i = next_reached s i j p h.0 e.0 (and_parts _ _ closed).0 before in
+    tree_reached s (i + 1) tree extra preds h.1 e.1 (and_parts _ _ closed).1 (up_to s i before here) k (omega arith)
 
 not_all : (a b c : Bool) → (a ≡ true → b ≡ true → c ≡ true → ⊥) → (a && b && c) ≡ false
 not_all true true true h = absurd (h refl refl refl)

@@ -1,5 +1,6 @@
 -- A workload has no number with a point, so its text is the compact one.
-use Rattle.std.proofs.Common.{◌≡◌, ℕ, ◌+◌, List, [], ◌∷◌, Bool, false, ◌||◌, Option, Some, None, refl}
+use Rattle.std.proofs.Common.{◌≡◌, ℕ, ◌+◌, List, [], ◌∷◌, false, Option, Some, None, refl}
+use Rattle.std.proofs.lemmas.Bool.{or_from}
 use Rattle.serde_json.specs.Data.{Data}
 use Rattle.serde_json.specs.Written.{has_float, items_have_float}
 use Rattle.workload_gen.specs.declared.sample.Table.{Table}
@@ -8,12 +9,9 @@ use Rattle.workload_gen.specs.declared.sample.Join.{Join}
 use Rattle.workload_gen.specs.Sample.{Sample, SampleQuery}
 use Rattle.workload_gen.specs.Values.{join_value, join_value_by, query_value, relation_value, table_value, values, workload_value}
 
-neither : (a b : Bool) → a ≡ false → b ≡ false → (a || b) ≡ false
-neither a b p q = rw (p, q) refl
-
 all_plain : {A : Type 0} (value : ℕ → A → Data) → ((at : ℕ) (x : A) → has_float (value at x) ≡ false) → (at : ℕ) (xs : List A) → items_have_float (values value at xs) ≡ false
 all_plain value plain at [] = refl
-all_plain value plain at (x ∷ xs) = neither _ _ (plain at x) (all_plain value plain (at + 1) xs)
+all_plain value plain at (x ∷ xs) = or_from _ _ (plain at x) (all_plain value plain (at + 1) xs)
 
 table_is_plain : (t : ℕ) (table : Table) → has_float (table_value t table) ≡ false
 unfolding table_value

@@ -1,10 +1,11 @@
 use Rattle.std.proofs.Common.{◌≡◌, List, ap, sym, ◌∙◌, subst, refl}
+use Rattle.std.proofs.lemmas.List.{take_at}
 use Rattle.memo_table.specs.declared.view.View.{View}
 use Rattle.memo_table.specs.Seats.{SeatView}
 use Rattle.memo_table.specs.Views.{EachOnceBelow}
 use Rattle.dpe_engine.specs.Rounds.{AreReady, HaveWorked, IsGathered, MayTurn}
 use Rattle.dpe_engine.proofs.Splits.{crew_ready}
-use Rattle.dpe_engine.proofs.Rounds.{turned, may_still, take_front}
+use Rattle.dpe_engine.proofs.Rounds.{turned, may_still}
 use Rattle.dpe_engine.proofs.turn.round_in.Goals as goal
 
 pub work_each-requires-clause-ready : goal.work_each-requires-clause-ready
@@ -27,7 +28,7 @@ returns-clause-turned g c =
     let worked : HaveWorked kind base c.args.pairs.now c.split_off.new.crew.items c.work_each.new.crew = subst F c.as_mut_slice.ensures.value c.work_each.ensures in
     let G : List SeatView → Type 0 = λ l. IsGathered c.args.memo.now c.split_off.new.seat l c.gather.new.seat in
     let gathered : IsGathered c.args.memo.now c.split_off.new.seat c.work_each.new.crew c.gather.new.seat =
-    subst G (take_front _ c.work_each.new.crew _ (c.work_each.ensures.size ∙ c.as_mut_slice.ensures.len)) c.gather.ensures.gathered in
+    subst G (take_at c.work_each.new.crew _ _ (c.work_each.ensures.size ∙ c.as_mut_slice.ensures.len)) c.gather.ensures.gathered in
     turned kind c.args.memo.now base c.args.workers c.args.pairs.now first c.split_off.new.seat c.split_off.new.crew.items c.work_each.new.crew
     c.split_off.ensures.split worked c.gather.new.seat c.requires.may.some known gathered c.drawn.new.seat c.drawn.result
     (rw view c.requires.may.weight) c.drawn.ensures.all c.drawn.ensures.table c.drawn.ensures.view before (c.drawn-base.ensures.all c.requires.may.weight) c.drawn.ensures.made (rw view refl)

@@ -1,19 +1,20 @@
 use Rattle.std.proofs.Common.{◌≡◌, ◌⊎◌, Contains, ℕ, sym, subst, ap, ◌∙◌}
 use Rattle.dpe_base.specs.declared.TheConstants.{EMPTY}
 use Rattle.dpe_base.specs.Sets.{union}
+use Rattle.dpe_base.proofs.Members.{contains_tail}
 use Rattle.card_scaled.specs.Cards.{rows}
 use Rattle.join_tree.specs.Trees.{Made, Least, pair_word}
 use Rattle.card_scaled.proofs.CardLaws.{rows_bounds}
 use Rattle.join_tree.proofs.BuiltLists.{built_lists_are_workable}
 use Rattle.memo_table.specs.declared.view.View.{View}
 use Rattle.memo_table.specs.Views.{with_offer}
-use Rattle.dpe_engine.proofs.PairSteps.{pair_of_query, loaded_least, worked_pair, word_is, more}
+use Rattle.dpe_engine.proofs.PairSteps.{pair_of_query, loaded_least, worked_pair, word_is}
 use Rattle.dpe_engine.proofs.worker.work_pair.Goals as goal
 
 pub load-second-requires-clause-held : goal.load-second-requires-clause-held
 load-second-requires-clause-held g c = λ κs h.
     let F : View → Type 0 = λ v. Contains v.bounds (c.args.pair.b, c.requires.second.word) in
-    (c.requires.second.word, subst F (sym c.load-first.ensures.view) (more _ _ _ c.requires.second.bound))
+    (c.requires.second.word, subst F (sym c.load-first.ensures.view) (contains_tail _ _ _ c.requires.second.bound))
 
 pub rows-rows_a-requires-clause-some : goal.rows-rows_a-requires-clause-some
 rows-rows_a-requires-clause-some g c = (pair_of_query _ _ c.requires.planned.query (c.requires.planned.builds.within _ c.requires.listed)).some_first
@@ -78,7 +79,7 @@ returns g c =
     let la : Least kind v.query v.pairs c.args.pair.a c.load-first.result = loaded_least kind v c.args.pair.a c.load-first.result c.requires.first ma c.load-first.ensures.least in
     let lb : Least kind v.query v.pairs c.args.pair.b c.load-second.result =
     loaded_least kind v c.args.pair.b c.load-second.result c.requires.second mb
-    (λ w h. let F : View → Type 0 = λ u. Contains u.bounds (c.args.pair.b, w) in c.load-second.ensures.least w (subst F (sym c.load-first.ensures.view) (more _ _ _ h))) in
+    (λ w h. let F : View → Type 0 = λ u. Contains u.bounds (c.args.pair.b, w) in c.load-second.ensures.least w (subst F (sym c.load-first.ensures.view) (contains_tail _ _ _ h))) in
     let is = word_is kind q c.args.pair c.load-first.result c.load-second.result _ _ _ _ c.best_split-word.ensures
     (c.rows-rows_a.ensures.cardinality q c.requires.planned.rows) (c.rows-rows_b.ensures.cardinality q c.requires.planned.rows)
     (c.rows-rows.ensures.cardinality q c.requires.planned.rows ∙ ap (rows q) c.union-union.ensures) in

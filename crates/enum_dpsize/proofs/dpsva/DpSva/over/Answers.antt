@@ -1,21 +1,18 @@
-use Rattle.std.proofs.Common.{◌≡◌, ◌∙◌, ap, sym, arith, refl, length, List, subst, ◌≤◌, ℕ}
+use Rattle.std.proofs.Common.{◌∙◌, sym, arith, refl, subst}
 use Rattle.pair_stream.specs.Orders.{Ordered, Complete}
 use Rattle.pair_stream.specs.Parts.{part}
 use Rattle.enum_dpsize.proofs.DpsizeLaw.{dpsize_complete, dpsize_ordered}
-use Rattle.enum_dpsize.proofs.PartLists.{part_read}
+use Rattle.enum_dpsize.proofs.PartLists.{part_read, read_to_end}
 use Rattle.enum_dpsize.proofs.DpsizeSteps.{left_start, left_start_one}
 use Rattle.enum_dpsize.proofs.ProbeSteps.{probes_start, probes_start_one, probes_bound}
 use Rattle.enum_dpsize.proofs.dpsva.DpSva.over.Goals as goal
 use Rattle.enum_dpsize.proofs.dpsva.DpSva.over.Goals.{then-n-eq1, else-n-eq1}
 
-same_length : (xs ys : List ℕ) (i : ℕ) → ys ≡ xs → i ≡ length ys → length xs ≤ i
-same_length xs ys i e h = omega (arith, ap length e, h)
-
 pub returns-clause-list : goal.returns-clause-list
 returns-clause-list c =
     elim c.if-n-eq1.branch [
       | then-n-eq1 w ↦ left_start_one c.args.graph.now c.if-n-eq1.result 1 (sym c.n-n.ensures.value ∙ w.if-n-eq1.true)
-          (same_length (part c.args.graph.now 1) w.list.result.now c.if-n-eq1.result (part_read c.args.graph.now c.args.parts.now 1 w.list.result.now c.requires (omega arith) (omega (arith, c.n-n.ensures.valid.some)) w.list.ensures) w.result-is)
+          (read_to_end (part c.args.graph.now 1) w.list.result.now c.if-n-eq1.result (part_read c.args.graph.now c.args.parts.now 1 w.list.result.now c.requires (omega arith) (omega (arith, c.n-n.ensures.valid.some)) w.list.ensures) w.result-is)
       | else-n-eq1 w ↦ rw w.result-is (left_start c.args.graph.now 1 (omega (arith, c.n-n.ensures.valid.some, c.n-n.ensures.value, w.if-n-eq1.false)) refl)
     ]
 
@@ -31,7 +28,7 @@ returns-clause-total c =
       | then-n-eq1 w ↦ omega (
         arith,
         probes_start_one c.args.graph.now c.if-n-eq1.result 1 (sym c.n-n.ensures.value ∙ w.if-n-eq1.true)
-            (same_length (part c.args.graph.now 1) w.list.result.now c.if-n-eq1.result (part_read c.args.graph.now c.args.parts.now 1 w.list.result.now c.requires (omega arith) (omega (arith, c.n-n.ensures.valid.some)) w.list.ensures) w.result-is),
+            (read_to_end (part c.args.graph.now 1) w.list.result.now c.if-n-eq1.result (part_read c.args.graph.now c.args.parts.now 1 w.list.result.now c.requires (omega arith) (omega (arith, c.n-n.ensures.valid.some)) w.list.ensures) w.result-is),
       )
       | else-n-eq1 w ↦ rw w.result-is (omega (arith, probes_start c.args.graph.now 1 (omega (arith, c.n-n.ensures.valid.some, c.n-n.ensures.value, w.if-n-eq1.false)) refl))
     ]

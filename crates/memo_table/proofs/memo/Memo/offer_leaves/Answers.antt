@@ -1,8 +1,10 @@
 use Rattle.std.proofs.Common.{arith, inr, ◌<◌, refl}
 use Rattle.dpe_base.specs.declared.TheConstants.{N_MAX}
 use Rattle.dpe_base.specs.Queries.{relations}
+use Rattle.dpe_base.specs.Sets.{full}
+use Rattle.dpe_base.proofs.SetLaws.{full_has, single_some, single_within}
 use Rattle.memo_table.specs.Making.{space_of}
-use Rattle.memo_table.proofs.Leaves.{single_some, single_within, no_leaves, opens_more}
+use Rattle.memo_table.proofs.Leaves.{no_leaves, opens_more}
 use Rattle.memo_table.proofs.TreeWords.{leaf_made}
 use Rattle.memo_table.proofs.memo.Memo.offer_leaves.Goals as goal
 
@@ -12,7 +14,7 @@ offer-requires-clause-some g c κs within = rw c.single.ensures (single_some c.l
 pub offer-requires-clause-within : goal.offer-requires-clause-within
 offer-requires-clause-within g c κs within =
     let inside : c.loop-r.r < relations c.args.self.now.query = let n = c.requires.n in let t = c.loop-r-test.true in omega arith in
-    rw c.single.ensures (single_within c.loop-r.r (relations c.args.self.now.query) inside)
+    rw c.single.ensures (single_within (full (relations c.args.self.now.query)) c.loop-r.r (full_has (relations c.args.self.now.query) c.loop-r.r inside))
 
 pub offer-requires-clause-word : goal.offer-requires-clause-word
 offer-requires-clause-word g c κs within =
