@@ -3,10 +3,10 @@ use Rattle.std.proofs.Common.{◌≡◌, ℕ, ◌+◌, ◌*◌, ◌<◌, ◌≤�
 use Rattle.std.proofs.lemmas.Bool.{cases_lt}
 use Rattle.dpe_base.specs.declared.TheConstants.{COST_LIMIT, SPAN, EMPTY}
 use Rattle.cost_model.specs.Costs.{operators}
-use Rattle.cost_model.specs.Words.{split_cost, best_word}
-use Rattle.cost_model.specs.Laws.{CostsAreBounded, WordsHoldTheirParts, ComesBefore, WordsAreOrdered, EmptyIsNoWord, IsSplitWord, BestWordIsLeast}
+use Rattle.cost_model.specs.Words.{split_cost, least_split_word}
+use Rattle.cost_model.specs.Laws.{CostsAreBounded, WordsHoldTheirParts, ComesBefore, WordsAreOrdered, EmptyIsNoWord, IsSplitWord, SplitWordsAreLeast}
 use Rattle.cost_model.proofs.CostLaws.{operators_few, join_cost_below, first_cost_capped}
-use Rattle.cost_model.proofs.WordLaws.{word-below, word-above, word_at_empty, best_below_le, best_below_is}
+use Rattle.cost_model.proofs.WordLaws.{word-below, word-above, word_at_empty, least_split_below_le, least_split_below_is}
 
 pub costs_are_bounded : CostsAreBounded
 costs_are_bounded kind op l r o a b c = (join_cost_below kind op l r o a b c, first_cost_capped kind l r o a b c)
@@ -38,28 +38,28 @@ empty_is_no_word = (
   λ set l e. absurd (omega (arith, l, e, word-below 0 3 set (omega arith))),
 )
 
-pub best_word_is_least : BestWordIsLeast
-best_word_is_least kind a b wa wb la lb o ia ib =
+pub split_words_are_least : SplitWordsAreLeast
+split_words_are_least kind a b wa wb la lb o ia ib =
     record {
-      one = best_below_is (operators kind) kind a b wa wb la lb o;
+      one = least_split_below_is (operators kind) kind a b wa wb la lb o;
       least = least;
       none = (λ e op l. above op l (omega (arith, e)), below);
     }
   where
-    least : (v : ℕ) → IsSplitWord kind a b wa wb la lb o v → best_word kind a b wa wb la lb o ≤ v
+    least : (v : ℕ) → IsSplitWord kind a b wa wb la lb o v → least_split_word kind a b wa wb la lb o ≤ v
     least v is = elim is.2 [
-      | inl e ↦ omega (arith, e, (best_below_le (operators kind) kind is.0 a b wa wb la lb o is.1).0)
-      | inr e ↦ omega (arith, e, (best_below_le (operators kind) kind is.0 a b wa wb la lb o is.1).1)
+      | inl e ↦ omega (arith, e, (least_split_below_le (operators kind) kind is.0 a b wa wb la lb o is.1).0)
+      | inr e ↦ omega (arith, e, (least_split_below_le (operators kind) kind is.0 a b wa wb la lb o is.1).1)
     ]
 
-    above : (op : ℕ) → op < operators kind → EMPTY ≤ best_word kind a b wa wb la lb o → (COST_LIMIT ≤ split_cost kind op wa wb la lb o) × (COST_LIMIT ≤ split_cost kind op wb wa lb la o)
+    above : (op : ℕ) → op < operators kind → EMPTY ≤ least_split_word kind a b wa wb la lb o → (COST_LIMIT ≤ split_cost kind op wa wb la lb o) × (COST_LIMIT ≤ split_cost kind op wb wa lb la o)
     above op l e = (
-      word_at_empty (split_cost kind op wa wb la lb o) op a (operators_few kind op l) ia (omega (arith, e, (best_below_le (operators kind) kind op a b wa wb la lb o l).0)),
-      word_at_empty (split_cost kind op wb wa lb la o) op b (operators_few kind op l) ib (omega (arith, e, (best_below_le (operators kind) kind op a b wa wb la lb o l).1)),
+      word_at_empty (split_cost kind op wa wb la lb o) op a (operators_few kind op l) ia (omega (arith, e, (least_split_below_le (operators kind) kind op a b wa wb la lb o l).0)),
+      word_at_empty (split_cost kind op wb wa lb la o) op b (operators_few kind op l) ib (omega (arith, e, (least_split_below_le (operators kind) kind op a b wa wb la lb o l).1)),
     )
 
-    below : ((op : ℕ) → op < operators kind → (COST_LIMIT ≤ split_cost kind op wa wb la lb o) × (COST_LIMIT ≤ split_cost kind op wb wa lb la o)) → best_word kind a b wa wb la lb o ≡ EMPTY
-    below h = elim (best_below_is (operators kind) kind a b wa wb la lb o) [
+    below : ((op : ℕ) → op < operators kind → (COST_LIMIT ≤ split_cost kind op wa wb la lb o) × (COST_LIMIT ≤ split_cost kind op wb wa lb la o)) → least_split_word kind a b wa wb la lb o ≡ EMPTY
+    below h = elim (least_split_below_is (operators kind) kind a b wa wb la lb o) [
       | inl e ↦ e
       | inr one ↦ elim one.2 [
         | inl e ↦ e ∙ word-above (split_cost kind one.0 wa wb la lb o) one.0 a (h one.0 one.1).0

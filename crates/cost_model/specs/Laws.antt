@@ -2,7 +2,7 @@
 use Rattle.std.specs.Prelude.{◌≡◌, ◌≢◌, ℕ, ◌*◌, ◌^◌, ◌<◌, ◌≤◌, ◌⊎◌, ◌↔◌}
 use Rattle.dpe_base.specs.declared.TheConstants.{ROW_CAP, COST_LIMIT, SPAN, EMPTY}
 use Rattle.cost_model.specs.Costs.{operators, join_cost}
-use Rattle.cost_model.specs.Words.{word, word_cost, word_op, word_left, split_cost, split_word, best_word}
+use Rattle.cost_model.specs.Words.{word, word_cost, word_op, word_left, split_cost, split_word, least_split_word}
 
 -- no operator costs 2 ^ 90, and the first costs at most 4 * ROW_CAP
 abbrev pub CostsAreBounded : Type 0
@@ -42,6 +42,6 @@ pub record IsLeastSplit (kind a b wa wb la lb o w : ℕ) : Type 0 where
   pub least : (v : ℕ) → IsSplitWord kind a b wa wb la lb o v → w ≤ v
   pub none : (w ≡ EMPTY) ↔ ((op : ℕ) → op < operators kind → (COST_LIMIT ≤ split_cost kind op wa wb la lb o) × (COST_LIMIT ≤ split_cost kind op wb wa lb la o))
 
-abbrev pub BestWordIsLeast : Type 0
-BestWordIsLeast =
-    (kind a b wa wb la lb o : ℕ) → a < SPAN → b < SPAN → IsLeastSplit kind a b wa wb la lb o (best_word kind a b wa wb la lb o)
+abbrev pub SplitWordsAreLeast : Type 0
+SplitWordsAreLeast =
+    (kind a b wa wb la lb o : ℕ) → a < SPAN → b < SPAN → IsLeastSplit kind a b wa wb la lb o (least_split_word kind a b wa wb la lb o)

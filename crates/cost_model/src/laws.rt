@@ -1,5 +1,6 @@
+//! What holds of costs and memo words.
 ghost use Rattle.std.specs.Prelude.{◌≡◌};
-ghost use Rattle.cost_model.specs.Laws.{CostsAreBounded, WordsHoldTheirParts, WordsAreOrdered, EmptyIsNoWord, BestWordIsLeast};
+ghost use Rattle.cost_model.specs.Laws.{CostsAreBounded, WordsHoldTheirParts, WordsAreOrdered, EmptyIsNoWord, SplitWordsAreLeast};
 
 use crate::model::{CostModel, Cout, Ops};
 
@@ -31,6 +32,6 @@ pub fn empty_is_no_word()
 
 /// What `best_split` answers is at most the word of each order and operator, and is one of them or `EMPTY`.
 /// It is `EMPTY` exactly where none of them has a word.
-pub fn best_word_is_least()
-    ensures { BestWordIsLeast }
+pub fn split_words_are_least()
+    ensures { SplitWordsAreLeast }
 {}

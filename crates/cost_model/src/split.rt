@@ -1,5 +1,5 @@
 ghost use Rattle.std.specs.Prelude.{◌≡◌, ◌≢◌, ◌≤◌, ◌<◌, ℕ, IsTrue, ◌↔◌, min, ◌+◌, ◌*◌};
-ghost use Rattle.cost_model.specs.Words.{word_cost, LoopWins, best_word};
+ghost use Rattle.cost_model.specs.Words.{word_cost, LoopWins, least_split_word};
 
 use crate::model::CostModel;
 use crate::word::word_of;
@@ -31,7 +31,7 @@ fn ops_split(a: u32, b: u32, sides: u64, la: u64, lb: u64, o: u64) -> u64
     requires left { (1 ≤ la) × (la ≤ ROW_CAP) }
     requires right { (1 ≤ lb) × (lb ≤ ROW_CAP) }
     requires out { (1 ≤ o) × (o ≤ ROW_CAP) }
-    ensures { (wa wb : ℕ) → word_cost wa + word_cost wb ≡ sides → result ≡ best_word 0 a b wa wb la lb o }
+    ensures { (wa wb : ℕ) → word_cost wa + word_cost wb ≡ sides → result ≡ least_split_word 0 a b wa wb la lb o }
 {
     let (low, high) = (la.min(lb), la.max(lb));
     if loop_wins(low, high) {
@@ -56,7 +56,7 @@ pub fn best_split<M: CostModel>(
     requires left { (1 ≤ la) × (la ≤ ROW_CAP) }
     requires right { (1 ≤ lb) × (lb ≤ ROW_CAP) }
     requires out { (1 ≤ o) × (o ≤ ROW_CAP) }
-    ensures { result ≡ best_word M.KIND pair.a pair.b wa wb la lb o }
+    ensures { result ≡ least_split_word M.KIND pair.a pair.b wa wb la lb o }
 {
     let sides = wa / (4 * SPAN) + wb / (4 * SPAN);
     let (a, b) = (pair.a.bits(), pair.b.bits());

@@ -1,6 +1,5 @@
-ghost use Rattle.std.specs.Prelude.{◌≡◌, IfOk, string_bytes};
+ghost use Rattle.std.specs.Prelude.{◌≡◌, string_bytes};
 
-use std::alloc::{AllocError, Global};
 use std::marker::Model;
 
 /// The name of a table, a column, a query or a relation, which contracts see as its bytes.
@@ -23,15 +22,6 @@ impl Name {
         ensures { result ≡ string_bytes text }
     {
         Name { text }
-    }
-
-    /// Another name with the same text.
-    pub fn copy(alloc: Global, name: &Name) -> Result<Name, AllocError>
-        ensures { IfOk result (λ n. n ≡ name.now) }
-    {
-        Ok(Name {
-            text: String::from_str(alloc, name.text())?,
-        })
     }
 
     /// The text that the name was made of.

@@ -9,7 +9,7 @@ use Rattle.join_graph.specs.Graphs.{Pairs, graph_of}
 use Rattle.pair_stream.specs.Orders.{Ordered}
 use Rattle.join_tree.specs.Trees.{Made, Least, Builds}
 use Rattle.join_tree.specs.BuiltLists.{IsWorkable}
-use Rattle.memo_table.specs.declared.TheConstants.{WEIGHT, DRAWS}
+use Rattle.dpe_base.specs.declared.TheConstants.{WEIGHT, DRAWS}
 use Rattle.memo_table.specs.declared.view.View.{View}
 use Rattle.memo_table.specs.Finishing.{IsLeastBound}
 use Rattle.memo_table.specs.Seats.{MemoTable, SeatView, IsSeatOf, BoundsAreMade, Settled}

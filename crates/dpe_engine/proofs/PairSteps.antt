@@ -11,7 +11,7 @@ use Rattle.dpe_base.proofs.SetLaws.{union_within}
 use Rattle.dpe_base.proofs.SizeLaws.{within_span, union_some}
 use Rattle.join_graph.specs.Graphs.{Pairs, graph_of}
 use Rattle.card_scaled.specs.Cards.{rows}
-use Rattle.cost_model.specs.Words.{best_word}
+use Rattle.cost_model.specs.Words.{least_split_word}
 use Rattle.join_tree.specs.Trees.{Made, Least, pair_word}
 use Rattle.join_tree.proofs.Substructure.{least_word_same}
 use Rattle.memo_table.specs.declared.view.View.{View}
@@ -73,9 +73,9 @@ offering v s w = dite (ℕ_discrete w EMPTY)
     subst F (sym (ne_eqb w EMPTY ne)) record { query = refl; pairs = refl; bounds = contains_tail (s, w) v.bounds; floor = refl; weight = refl; tickets = refl; allowance = refl; known = inr (0, omega arith, refl) })
 
 -- the word of the split, by what the table answered
-pub word_is : (kind : ℕ) (q : JoinQuery) (p : Pair) (wa wb la lb o word : ℕ) → word ≡ best_word kind p.a p.b wa wb la lb o → la ≡ rows q p.a → lb ≡ rows q p.b → o ≡ rows q (union p.a p.b) → word ≡ pair_word kind q p wa wb
+pub word_is : (kind : ℕ) (q : JoinQuery) (p : Pair) (wa wb la lb o word : ℕ) → word ≡ least_split_word kind p.a p.b wa wb la lb o → la ≡ rows q p.a → lb ≡ rows q p.b → o ≡ rows q (union p.a p.b) → word ≡ pair_word kind q p wa wb
 word_is kind q p wa wb la lb o word e a b c =
-    e ∙ (ap (λ x. best_word kind p.a p.b wa wb x lb o) a ∙ (ap (λ x. best_word kind p.a p.b wa wb (rows q p.a) x o) b ∙ ap (λ x. best_word kind p.a p.b wa wb (rows q p.a) (rows q p.b) x) c))
+    e ∙ (ap (λ x. least_split_word kind p.a p.b wa wb x lb o) a ∙ (ap (λ x. least_split_word kind p.a p.b wa wb (rows q p.a) x o) b ∙ ap (λ x. least_split_word kind p.a p.b wa wb (rows q p.a) (rows q p.b) x) c))
 
 pub worked_pair : (kind : ℕ) (p : Pair) (before one two after : SeatView) (wa wb word : ℕ) → one.table ≡ before.table → two.table ≡ one.table → after.table ≡ two.table
     → one.view ≡ with_bound before.view p.a wa → two.view ≡ with_bound one.view p.b wb → after.view ≡ with_offer two.view (union p.a p.b) word

@@ -3,7 +3,7 @@ use Rattle.std.proofs.Common.{◌≡◌, ℕ, ◌+◌, ◌*◌, ◌<◌, ◌≤�
 use Rattle.std.proofs.lemmas.List.Elements.{All-get_or, Contains-get_or}
 use Rattle.dpe_base.specs.declared.pair.Pair.{Pair}
 use Rattle.dpe_base.specs.Queries.{JoinQuery}
-use Rattle.memo_table.specs.declared.TheConstants.{WEIGHT}
+use Rattle.dpe_base.specs.declared.TheConstants.{WEIGHT}
 use Rattle.memo_table.specs.declared.view.View.{View}
 use Rattle.memo_table.specs.Seats.{MemoTable, SeatView, BoundsAreMade}
 use Rattle.memo_table.specs.Views.{times, EachOnceBelow, with_floor}

@@ -5,7 +5,7 @@ use Rattle.dpe_base.specs.Queries.{relations}
 use Rattle.dpe_base.specs.Sets.{single}
 use Rattle.card_scaled.specs.Cards.{RowTable}
 use Rattle.pair_stream.specs.Orders.{Ordered}
-use Rattle.memo_table.specs.declared.TheConstants.{WEIGHT, DRAWS}
+use Rattle.dpe_base.specs.declared.TheConstants.{WEIGHT, DRAWS}
 use Rattle.memo_table.specs.Seats.{MemoTable, SeatView, IsSeatOf, BoundsAreMade, Settled}
 use Rattle.memo_table.specs.Views.{EachOnceBelow}
 use Rattle.reorder_buffer.specs.Buffers.{BufferedPairs}

@@ -1,7 +1,7 @@
 -- What a round does to the main seat.
 use Rattle.std.specs.Prelude.{◌≡◌, ℕ, ◌+◌, ◌*◌, ◌≤◌, ◌<◌, ◌⊎◌, [], List, length, All, Contains, slice_index_or, sum_by}
 use Rattle.dpe_base.specs.declared.pair.Pair.{Pair}
-use Rattle.memo_table.specs.declared.TheConstants.{WEIGHT}
+use Rattle.dpe_base.specs.declared.TheConstants.{WEIGHT}
 use Rattle.memo_table.specs.Seats.{MemoTable, SeatView, IsSeatOf, BoundsAreMade}
 use Rattle.memo_table.specs.Views.{times, EachOnceBelow}
 use Rattle.dpe_engine.specs.Working.{past, IsDone, AreWorkable, IsReady, HasWorked}

@@ -9,19 +9,14 @@ use Rattle.dpe_base.specs.declared.TheConstants.{N_MAX}
 use Rattle.dpe_base.specs.declared.query.Pred.{Pred}
 use Rattle.dpe_base.specs.Queries.{JoinQuery, IsQuery, relations}
 use Rattle.dpe_base.specs.Sets.{Has, Meets, union, minus, single}
-use Rattle.dpe_base.proofs.SetLaws.{sets, empty_has, single_has, single_one, union_left, union_right, union_cases}
+use Rattle.dpe_base.proofs.QueryLaws.{pred_ends}
+use Rattle.dpe_base.proofs.SetLaws.{sets, empty_has, in_single, in_union}
 use Rattle.join_graph.specs.Laws.{Ends}
 use Rattle.join_graph.specs.Graphs.{JoinGraph, IsGraph, IsNeighbours, Edge, Crossed, adjacent_to, adjacency, other_end, graph_of}
 
 abbrev pub SomeEnds : List Pred → ℕ → ℕ → Type 0
 SomeEnds [] r s = ⊥
 SomeEnds (p ∷ ps) r s = Ends p r s ⊎ SomeEnds ps r s
-
-in_single : (k s : ℕ) → Has (single k) s ↔ (k ≡ s)
-in_single k s = (single_one k s, λ e. subst (Has (single k)) e (single_has k))
-
-in_union : (a b s : ℕ) → Has (union a b) s ↔ (Has a s ⊎ Has b s)
-in_union a b s = (union_cases a b s, λ h. elim h [ inl x ↦ union_left a b s x | inr x ↦ union_right a b s x ])
 
 other_end-low : (r : ℕ) (p : Pred) → p.low ≡ r → other_end r p ≡ single p.high
 unfolding other_end
@@ -124,12 +119,12 @@ graph_is q ok =
       some = ok.some;
       few = ok.few;
       sized = length-adjacency q.preds;
-      known = λ r s e. ends_known (relations q) q.preds r s (λ k d l. ((ok.preds k d l).0, (ok.preds k d l).1)) (edge_of q r s e);
+      known = λ r s e. ends_known (relations q) q.preds r s (λ k d l. pred_ends (relations q) (get_or q.preds k d) (ok.preds k d l)) (edge_of q r s e);
       turned = λ r s e. of_edge q s r (edge_turned_below q r s ok e) (ends_turned q.preds r s (edge_of q r s e));
     }
   where
     edge_turned_below : (q : JoinQuery) (r s : ℕ) → IsQuery q → Edge (graph_of q) r s → s < N_MAX
-    edge_turned_below q r s ok e = omega (arith, (ends_known (relations q) q.preds r s (λ k d l. ((ok.preds k d l).0, (ok.preds k d l).1)) (edge_of q r s e)).1, ok.few)
+    edge_turned_below q r s ok e = omega (arith, (ends_known (relations q) q.preds r s (λ k d l. pred_ends (relations q) (get_or q.preds k d) (ok.preds k d l)) (edge_of q r s e)).1, ok.few)
 
 -- the calls of the graph
 

@@ -13,7 +13,7 @@ use Rattle.dpe_base.proofs.SizeLaws.{full_below}
 use Rattle.join_graph.specs.Graphs.{JoinGraph, IsGraph, Edge, Crossed, Connected, Pairs, pair_of, graph_of}
 use Rattle.join_graph.proofs.Edges.{graph_is}
 use Rattle.join_graph.proofs.GraphLaws.{connected_union}
-use Rattle.join_tree.specs.Laws.{AllPairs}
+use Rattle.join_graph.specs.PairLists.{HasAllPairs}
 use Rattle.dpe_base.proofs.Members.{contains_head, contains_none, contains_cases}
 
 -- ---- facts that are decided
@@ -193,7 +193,7 @@ pairs_from : (g : JoinGraph) → IsGraph g → ℕ → ℕ → List Pair
 pairs_from g ok n a = flat (λ b. if_pair g (pair_of a b) (pairs_decided g ok a b)) n
 
 -- a list of all pairs of the query
-pub all_pairs : (q : JoinQuery) → IsQuery q → (pairs : List Pair) × AllPairs q pairs
+pub all_pairs : (q : JoinQuery) → IsQuery q → (pairs : List Pair) × HasAllPairs (graph_of q) pairs
 unfolding pairs_from
 all_pairs q ok = (flat (pairs_from (graph_of q) (graph_is q ok) (2 ^ relations q)) (2 ^ relations q), λ p. (of_list p, in_list p))
   where

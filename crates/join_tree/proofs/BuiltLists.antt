@@ -13,7 +13,7 @@ use Rattle.join_graph.proofs.GraphLaws.{connected_union}
 use Rattle.card_scaled.specs.Cards.{rows}
 use Rattle.cost_model.specs.Costs.{operators}
 use Rattle.cost_model.specs.Words.{split_word}
-use Rattle.cost_model.proofs.WordLaws.{best_below_is}
+use Rattle.cost_model.proofs.WordLaws.{least_split_below_is}
 use Rattle.join_tree.specs.Trees.{JoinTree, leaf, join, set_of, Trees, Made, LeastOverPairs, Builds, pair_word}
 use Rattle.join_tree.specs.BuiltLists.{IsBuilt, HasBestPair, IsWorkable, BuiltListsAreWorkable}
 use Rattle.join_tree.proofs.TreeLaws.{connected_size_some, connected_single_known}
@@ -44,7 +44,7 @@ module _ (kind : ℕ) (q : JoinQuery) (pairs : List Pair) (ok : IsQuery q) (buil
       elim (cases_eq (pair_word kind q p wa wb) EMPTY) [
         | inl e ↦ inl e
         | inr ne ↦
-            elim (best_below_is (operators kind) kind p.a p.b wa wb (rows q p.a) (rows q p.b) (rows q (union p.a p.b))) [
+            elim (least_split_below_is (operators kind) kind p.a p.b wa wb (rows q p.a) (rows q p.b) (rows q (union p.a p.b))) [
               | inl none ↦ inl none
               | inr one ↦
                   elim one.2 [

@@ -3,7 +3,8 @@ use Rattle.std.proofs.Common.{ℕ, suc, arith, List, subst}
 use Rattle.dpe_base.specs.declared.pair.Pair.{Pair}
 use Rattle.dpe_base.specs.Queries.{JoinQuery, IsQuery}
 use Rattle.join_graph.specs.Graphs.{Connected, graph_of}
-use Rattle.join_tree.specs.Laws.{AllPairs, ConnectedSetsHaveBestWords, ConnectedSetsHaveOnePlan}
+use Rattle.join_graph.specs.PairLists.{HasAllPairs}
+use Rattle.join_tree.specs.Laws.{ConnectedSetsHaveBestWords, ConnectedSetsHaveOnePlan}
 use Rattle.join_tree.specs.Trees.{Least, Best}
 use Rattle.join_tree.proofs.TreeLaws.{legal_connected, connected_built, all_pairs_build}
 use Rattle.join_tree.proofs.Substructure.{least_exists}
@@ -15,7 +16,7 @@ use Rattle.join_tree.proofs.AllPairs.{all_pairs}
 -- a list of all pairs gives each connected set a least word, which is its best word
 pub connected_best : (kind : ℕ) (q : JoinQuery) (s : ℕ) → IsQuery q → Connected (graph_of q) s → (w : ℕ) × Best kind q s w
 connected_best kind q s ok c =
-    let list : (pairs : List Pair) × AllPairs q pairs = all_pairs q ok in
+    let list : (pairs : List Pair) × HasAllPairs (graph_of q) pairs = all_pairs q ok in
     let least : (w : ℕ) × Least kind q list.0 s w =
     least_exists kind q list.0 ok (all_pairs_build q list.0 ok list.1) (suc s) s (omega arith) (c, connected_built q list.0 ok list.1 s c) in
     (least.0, (least_best kind q list.0 ok list.1 s least.0).0 least.1)

@@ -12,7 +12,7 @@ use Rattle.cost_model.proofs.LawProofs.{words_are_ordered}
 use Rattle.cost_model.proofs.WordLaws.{word-below}
 use Rattle.join_tree.specs.Laws.{root_operator, root_left, IsNoWorse, PlansAreLeast}
 use Rattle.join_tree.specs.Trees.{JoinTree, leaf, join, set_of, cost, root_word, Legal, EverySubtree}
-use Rattle.join_tree.proofs.BestLaws.{HasBest, legal_small, best_below}
+use Rattle.join_tree.proofs.BestLaws.{HasBest, legal_small, least_split_below}
 
 -- the word of a tree is that of its cost and its root
 root_is : (kind : ℕ) (q : JoinQuery) (t : JoinTree) → root_word kind q t ≡ word (cost kind q t) (root_operator t) (root_left t)
@@ -39,7 +39,7 @@ no_worse c o s c' o' s' lc lo ls lc' lo' ls' le =
 
 best_no_worse : (kind : ℕ) (q : JoinQuery) (t u : JoinTree) → IsQuery q → Legal kind (graph_of q) t → HasBest kind q t → Legal kind (graph_of q) u → set_of u ≡ set_of t → IsNoWorse kind q t u
 best_no_worse kind q t u ok l b m e =
-    let below : cost kind q t < COST_LIMIT = best_below kind q t ok l b in
+    let below : cost kind q t < COST_LIMIT = least_split_below kind q t ok l b in
     elim (cases_lt (cost kind q u) COST_LIMIT) [
       | inl c ↦
           let le : root_word kind q t ≤ root_word kind q u = b.least u (root_word kind q u) m e (record { below = c; is = refl }) in

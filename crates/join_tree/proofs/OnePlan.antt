@@ -7,7 +7,7 @@ use Rattle.dpe_base.proofs.SetLaws.{sets, same_set, member-same}
 use Rattle.join_graph.specs.Graphs.{graph_of}
 use Rattle.cost_model.proofs.CostLaws.{operators_few}
 use Rattle.join_tree.specs.Trees.{JoinTree, leaf, join, set_of, cost, root_word, Legal, Best, Plan, EverySubtree}
-use Rattle.join_tree.proofs.BestLaws.{legal_small, join_word, best_below, same_best}
+use Rattle.join_tree.proofs.BestLaws.{legal_small, join_word, least_split_below, same_best}
 
 -- words of two trees over one set that are equal have one root
 pub same_root : (kind : ℕ) (q : JoinQuery) (op op' : ℕ) (l r l' r' : JoinTree) → IsQuery q → Legal kind (graph_of q) (join op l r) → Legal kind (graph_of q) (join op' l' r') → cost kind q (join op l r) < COST_LIMIT → cost kind q (join op' l' r') < COST_LIMIT → root_word kind q (join op l r) ≡ root_word kind q (join op' l' r') → (op ≡ op') × (set_of l ≡ set_of l')
@@ -31,12 +31,12 @@ apart kind q r op x y ok l m c e =
 pub one_plan : (kind : ℕ) (q : JoinQuery) (t u : JoinTree) → IsQuery q → Legal kind (graph_of q) t → Legal kind (graph_of q) u → set_of t ≡ set_of u → EverySubtree (λ x. Best kind q (set_of x) (root_word kind q x)) t → EverySubtree (λ x. Best kind q (set_of x) (root_word kind q x)) u → t ≡ u
 one_plan kind q (leaf r) (leaf k) ok l m e a b = ap leaf (single_same r k e)
 one_plan kind q (leaf r) (join op x y) ok l m e a b =
-    absurd (apart kind q r op x y ok l m (best_below kind q (join op x y) ok m b.0) (same_best kind q (leaf r) (join op x y) e a b.0))
+    absurd (apart kind q r op x y ok l m (least_split_below kind q (join op x y) ok m b.0) (same_best kind q (leaf r) (join op x y) e a b.0))
 one_plan kind q (join op x y) (leaf k) ok l m e a b =
-    absurd (apart kind q k op x y ok m l (best_below kind q (join op x y) ok l a.0) (sym (same_best kind q (join op x y) (leaf k) e a.0 b)))
+    absurd (apart kind q k op x y ok m l (least_split_below kind q (join op x y) ok l a.0) (sym (same_best kind q (join op x y) (leaf k) e a.0 b)))
 one_plan kind q (join op x y) (join op' x' y') ok l m e a b =
     let root : (op ≡ op') × (set_of x ≡ set_of x') =
-    same_root kind q op op' x y x' y' ok l m (best_below kind q (join op x y) ok l a.0) (best_below kind q (join op' x' y') ok m b.0) (same_best kind q (join op x y) (join op' x' y') e a.0 b.0) in
+    same_root kind q op op' x y x' y' ok l m (least_split_below kind q (join op x y) ok l a.0) (least_split_below kind q (join op' x' y') ok m b.0) (same_best kind q (join op x y) (join op' x' y') e a.0 b.0) in
     let sides : set_of y ≡ set_of y' =
     other_side (set_of x) (set_of y) (set_of y') l.3 (rw root.1 m.3) (e ∙ ap (λ s. union s (set_of y')) (sym root.1)) in
     let left : x ≡ x' = one_plan kind q x x' ok l.1 m.1 root.1 a.1 b.1 in

@@ -13,7 +13,7 @@ use Rattle.cost_model.proofs.CostLaws.{operators_few}
 use Rattle.cost_model.proofs.WordLaws.{word_mono}
 use Rattle.join_tree.specs.Trees.{JoinTree, leaf, join, set_of, cost, root_word, Legal, HasWord, Best, Plan, EverySubtree}
 use Rattle.join_tree.proofs.TreeLaws.{legal_connected}
-use Rattle.join_tree.proofs.BestLaws.{HasBest, legal_small, join_word, best_below, best_cost}
+use Rattle.join_tree.proofs.BestLaws.{HasBest, legal_small, join_word, least_split_below, best_cost}
 
 every_root : (P : JoinTree → Type 0) (t : JoinTree) → EverySubtree P t → P t
 every_root P (leaf r) h = h
@@ -26,7 +26,7 @@ same_operator kind q op a b x y e f =
 -- the root of a best tree over the plans of its sides is a plan
 pub plan_join : (kind : ℕ) (q : JoinQuery) (op : ℕ) (l r x y : JoinTree) → IsQuery q → Legal kind (graph_of q) (join op l r) → HasBest kind q (join op l r) → Plan kind q (set_of l) x → Plan kind q (set_of r) y → Plan kind q (set_of (join op l r)) (join op x y)
 plan_join kind q op l r x y ok m b px py =
-    let below : cost kind q (join op l r) < COST_LIMIT = best_below kind q (join op l r) ok m b in
+    let below : cost kind q (join op l r) < COST_LIMIT = least_split_below kind q (join op l r) ok m b in
     let left : cost kind q x ≤ cost kind q l =
     best_cost kind q x l ok px.legal (every_root (HasBest kind q) x px.best) m.1 (sym px.over) (omega (arith, below)) in
     let right : cost kind q y ≤ cost kind q r =

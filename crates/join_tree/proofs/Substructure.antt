@@ -1,7 +1,7 @@
 -- Optimal substructure: the least word of a set is the least over its pairs on the least words of the sides.
 use Rattle.std.proofs.Common.{◌≡◌, ◌≢◌, ℕ, zero, suc, ◌+◌, ◌*◌, ◌≤◌, ◌<◌, ◌⊎◌, ◌↔◌, inl, inr, arith, refl, sym, ◌∙◌, ap, subst, List, Contains}
 use Rattle.std.proofs.lemmas.Bool.{cases_eq, cases_lt}
-use Rattle.dpe_base.specs.declared.TheConstants.{COST_LIMIT, SPAN, EMPTY, ROW_CAP, N_MAX}
+use Rattle.dpe_base.specs.declared.TheConstants.{COST_LIMIT, EMPTY, ROW_CAP, N_MAX}
 use Rattle.dpe_base.specs.declared.pair.Pair.{Pair}
 use Rattle.dpe_base.specs.Queries.{JoinQuery, relations, IsQuery}
 use Rattle.dpe_base.specs.Sets.{Within, union, full, single, size}
@@ -10,12 +10,12 @@ use Rattle.dpe_base.proofs.SizeLaws.{size-union, size-single, size_one, size_ful
 use Rattle.join_graph.specs.Graphs.{Connected, Pairs, pair_of, graph_of}
 use Rattle.card_scaled.specs.Cards.{rows}
 use Rattle.cost_model.specs.Costs.{operators, join_cost}
-use Rattle.cost_model.specs.Words.{word, word_cost, split_word, best_word}
+use Rattle.cost_model.specs.Words.{word, word_cost, split_word, least_split_word}
 use Rattle.cost_model.proofs.CostLaws.{operators_some, operators_few, first_cost_capped}
-use Rattle.cost_model.proofs.WordLaws.{word-below, word_mono, word_cost-word, word_not_empty, best_below_le, best_below_is}
+use Rattle.cost_model.proofs.WordLaws.{word-below, word_mono, word_cost-word, word_not_empty, least_split_below_le, least_split_below_is}
 use Rattle.join_graph.specs.PairLists.{SideBuilt}
 use Rattle.join_tree.specs.Laws.{OptimalSubstructure, SidesHaveLeastWords}
-use Rattle.join_tree.specs.Trees.{JoinTree, leaf, join, set_of, cost, root_word, HasWord, Trees, Made, Least, LeastOfPair, LeastOverPairs, Builds}
+use Rattle.join_tree.specs.Trees.{JoinTree, leaf, join, set_of, cost, leaf_word, root_word, HasWord, Trees, Made, Least, LeastOfPair, LeastOverPairs, Builds}
 use Rattle.card_scaled.proofs.CardLaws.{rows_bounds}
 use Rattle.join_tree.proofs.TreeLaws.{connected_small, connected_size_some, connected_single_known, legal_connected, made_legal}
 use Rattle.join_tree.proofs.BestLaws.{least_single}
@@ -135,8 +135,8 @@ module _ (kind : ℕ) (q : JoinQuery) (pairs : List Pair) (ok : IsQuery q) (buil
   least_of_pair_same : (p : Pair) (v w : ℕ) → LeastOfPair kind q pairs p v → LeastOfPair kind q pairs p w → v ≡ w
   least_of_pair_same p v w a b =
       a.is
-      ∙ ap (λ x. best_word kind p.a p.b x a.second (rows q p.a) (rows q p.b) (rows q (union p.a p.b))) (least_word_same kind q pairs p.a a.first b.first a.least_first b.least_first)
-      ∙ ap (λ y. best_word kind p.a p.b b.first y (rows q p.a) (rows q p.b) (rows q (union p.a p.b))) (least_word_same kind q pairs p.b a.second b.second a.least_second b.least_second)
+      ∙ ap (λ x. least_split_word kind p.a p.b x a.second (rows q p.a) (rows q p.b) (rows q (union p.a p.b))) (least_word_same kind q pairs p.a a.first b.first a.least_first b.least_first)
+      ∙ ap (λ y. least_split_word kind p.a p.b b.first y (rows q p.a) (rows q p.b) (rows q (union p.a p.b))) (least_word_same kind q pairs p.b a.second b.second a.least_second b.least_second)
       ∙ sym b.is
 
   -- a least word of a side costs no more than a cheap tree
@@ -169,7 +169,7 @@ module _ (kind : ℕ) (q : JoinQuery) (pairs : List Pair) (ok : IsQuery q) (buil
       omega (
         arith,
         split.is,
-        (best_below_le (operators kind) kind 0 p.a p.b split.first split.second (rows q p.a) (rows q p.b) (rows q (union p.a p.b)) (operators_some kind)).0,
+        (least_split_below_le (operators kind) kind 0 p.a p.b split.first split.second (rows q p.a) (rows q p.b) (rows q (union p.a p.b)) (operators_some kind)).0,
         first_cost_below p split.first split.second c split.least_first split.least_second,
         word-below (word_cost split.first + word_cost split.second + join_cost kind 0 (rows q p.a) (rows q p.b) (rows q (union p.a p.b))) 0 p.a (first_cost_below p split.first split.second c split.least_first split.least_second),
         connected_small q ok p.a (builds.within p c).first,
@@ -180,7 +180,7 @@ module _ (kind : ℕ) (q : JoinQuery) (pairs : List Pair) (ok : IsQuery q) (buil
   -- the least word of a pair is the word of a tree
   least_of_pair_made : (p : Pair) (v : ℕ) → Contains pairs p → LeastOfPair kind q pairs p v → Made kind q pairs (union p.a p.b) v
   least_of_pair_made p v c split =
-      elim (best_below_is (operators kind) kind p.a p.b split.first split.second (rows q p.a) (rows q p.b) (rows q (union p.a p.b))) [
+      elim (least_split_below_is (operators kind) kind p.a p.b split.first split.second (rows q p.a) (rows q p.b) (rows q (union p.a p.b))) [
         | inl none ↦ absurd (least_of_pair_not_empty p v c split (split.is ∙ none))
         | inr one ↦
             elim one.2 [
@@ -224,7 +224,7 @@ module _ (kind : ℕ) (q : JoinQuery) (pairs : List Pair) (ok : IsQuery q) (buil
               arith,
               split.least (pair_of (set_of l) (set_of r)) x.0 c e x.1,
               x.1.is,
-              (best_below_le (operators kind) kind op (set_of l) (set_of r) x.1.first x.1.second (rows q (set_of l)) (rows q (set_of r)) (rows q (union (set_of l) (set_of r))) m.0).0,
+              (least_split_below_le (operators kind) kind op (set_of l) (set_of r) x.1.first x.1.second (rows q (set_of l)) (rows q (set_of r)) (rows q (union (set_of l) (set_of r))) m.0).0,
               join_least op x.1.first x.1.second v l r m h x.1.least_first x.1.least_second,
             )
         | inr c ↦
@@ -234,7 +234,7 @@ module _ (kind : ℕ) (q : JoinQuery) (pairs : List Pair) (ok : IsQuery q) (buil
               arith,
               split.least (pair_of (set_of r) (set_of l)) x.0 c e' x.1,
               x.1.is,
-              (best_below_le (operators kind) kind op (set_of r) (set_of l) x.1.first x.1.second (rows q (set_of r)) (rows q (set_of l)) (rows q (union (set_of r) (set_of l))) m.0).1,
+              (least_split_below_le (operators kind) kind op (set_of r) (set_of l) x.1.first x.1.second (rows q (set_of r)) (rows q (set_of l)) (rows q (union (set_of r) (set_of l))) m.0).1,
               ap (λ u. split_word kind op (set_of l) x.1.second x.1.first (rows q (set_of l)) (rows q (set_of r)) (rows q u)) (union_comm (set_of r) (set_of l)),
               join_least op x.1.second x.1.first v l r m h x.1.least_second x.1.least_first,
             )
@@ -276,7 +276,7 @@ module _ (kind : ℕ) (q : JoinQuery) (pairs : List Pair) (ok : IsQuery q) (buil
       elim (cases_lt (size s) 2) [
         | inl one ↦
             let e : (r : ℕ) × (s ≡ single r) = size_one s (omega (arith, connected_size_some (graph_of q) s side.0)) in
-            subst (λ x. (w : ℕ) × Least kind q pairs x w) (sym e.1) (3 * SPAN + single e.0, least_single kind q pairs builds.within e.0 (connected_single_known (graph_of q) s e.0 side.0 e.1))
+            subst (λ x. (w : ℕ) × Least kind q pairs x w) (sym e.1) (leaf_word e.0, least_single kind q pairs builds.within e.0 (connected_single_known (graph_of q) s e.0 side.0 e.1))
         | inr many ↦
             let p : (p : Pair) × Contains pairs p × (union p.a p.b ≡ s) = side.1 many in
             let each : EachHasLeast s = λ x c e. split_of x c (least_exists n x.a (omega (arith, (sides_smaller q pairs ok builds x c).0, e)) (pair_sides x c).0) (least_exists n x.b (omega (arith, (sides_smaller q pairs ok builds x c).1, e)) (pair_sides x c).1) in
@@ -285,13 +285,13 @@ module _ (kind : ℕ) (q : JoinQuery) (pairs : List Pair) (ok : IsQuery q) (buil
       ]
     where
       split_of : (x : Pair) → Contains pairs x → (w : ℕ) × Least kind q pairs x.a w → (w : ℕ) × Least kind q pairs x.b w → (v : ℕ) × LeastOfPair kind q pairs x v
-      split_of x c a b = (best_word kind x.a x.b a.0 b.0 (rows q x.a) (rows q x.b) (rows q (union x.a x.b)), record { first = a.0; second = b.0; least_first = a.1; least_second = b.1; is = refl })
+      split_of x c a b = (least_split_word kind x.a x.b a.0 b.0 (rows q x.a) (rows q x.b) (rows q (union x.a x.b)), record { first = a.0; second = b.0; least_first = a.1; least_second = b.1; is = refl })
 
   pub each_has_least : (s : ℕ) → EachHasLeast s
   each_has_least s p c e =
       let a : (w : ℕ) × Least kind q pairs p.a w = least_exists (suc p.a) p.a (omega arith) (pair_sides p c).0 in
       let b : (w : ℕ) × Least kind q pairs p.b w = least_exists (suc p.b) p.b (omega arith) (pair_sides p c).1 in
-      (best_word kind p.a p.b a.0 b.0 (rows q p.a) (rows q p.b) (rows q (union p.a p.b)), record { first = a.0; second = b.0; least_first = a.1; least_second = b.1; is = refl })
+      (least_split_word kind p.a p.b a.0 b.0 (rows q p.a) (rows q p.b) (rows q (union p.a p.b)), record { first = a.0; second = b.0; least_first = a.1; least_second = b.1; is = refl })
 
   -- a tree over two relations or more is a join of a pair of the list
   pub root_pair : (t : JoinTree) → Trees kind q pairs t → 2 ≤ size (set_of t) → (p : Pair) × Contains pairs p × (union p.a p.b ≡ set_of t)

@@ -10,7 +10,7 @@ use Rattle.dpe_base.proofs.SizeLaws.{size_none, size-union, within_span}
 use Rattle.join_graph.specs.Graphs.{JoinGraph, Connected, Pairs, pair_of, graph_of}
 use Rattle.join_graph.proofs.GraphLaws.{crossed_back, connected_union, connected_single, pair_either, grown_pair}
 use Rattle.join_graph.specs.PairLists.{SideBuilt}
-use Rattle.join_tree.specs.Laws.{AllPairs}
+use Rattle.join_graph.specs.PairLists.{HasAllPairs}
 use Rattle.join_tree.specs.Trees.{JoinTree, leaf, join, set_of, Legal, LeavesBelow, Trees, Builds}
 
 -- ---- sets
@@ -60,7 +60,7 @@ join_size kind g op l r m =
       connected_size_some g (set_of r) (legal_connected kind g r m.2),
     )
 
-pub legal_made : (kind : ℕ) (q : JoinQuery) (pairs : List Pair) → IsQuery q → AllPairs q pairs → (t : JoinTree) → Legal kind (graph_of q) t → Trees kind q pairs t
+pub legal_made : (kind : ℕ) (q : JoinQuery) (pairs : List Pair) → IsQuery q → HasAllPairs (graph_of q) pairs → (t : JoinTree) → Legal kind (graph_of q) t → Trees kind q pairs t
 legal_made kind q pairs ok all (leaf r) l = l
 legal_made kind q pairs ok all (join op left right) l = (
   l.0,
@@ -83,13 +83,13 @@ made_legal kind q pairs all (join op left right) l = (
 )
 
 -- a connected set of two relations or more is the union of a pair
-pub connected_built : (q : JoinQuery) (pairs : List Pair) → IsQuery q → AllPairs q pairs → (s : ℕ) → Connected (graph_of q) s → SideBuilt pairs s
+pub connected_built : (q : JoinQuery) (pairs : List Pair) → IsQuery q → HasAllPairs (graph_of q) pairs → (s : ℕ) → Connected (graph_of q) s → SideBuilt pairs s
 connected_built q pairs ok all s c many =
     let p : (p : Pair) × Pairs (graph_of q) p × (union p.a p.b ≡ s) = grown_pair (graph_of q) s ok.few c many in
     (p.0, (all p.0).1 p.1, p.2)
 
 -- so such a list builds
-pub all_pairs_build : (q : JoinQuery) (pairs : List Pair) → IsQuery q → AllPairs q pairs → Builds (graph_of q) pairs
+pub all_pairs_build : (q : JoinQuery) (pairs : List Pair) → IsQuery q → HasAllPairs (graph_of q) pairs → Builds (graph_of q) pairs
 all_pairs_build q pairs ok all =
     record {
       within = λ p c. (all p).0 c;

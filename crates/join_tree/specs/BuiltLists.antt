@@ -1,11 +1,11 @@
 -- What a list of pairs whose sides are made of pairs offers to one who works through it.
-use Rattle.std.specs.Prelude.{◌≡◌, ℕ, ◌+◌, ◌*◌, ◌^◌, ◌<◌, ◌≤◌, ◌⊎◌, List, Contains}
-use Rattle.dpe_base.specs.declared.TheConstants.{N_MAX, SPAN, EMPTY}
+use Rattle.std.specs.Prelude.{◌≡◌, ℕ, ◌^◌, ◌<◌, ◌≤◌, ◌⊎◌, List, Contains}
+use Rattle.dpe_base.specs.declared.TheConstants.{N_MAX}
 use Rattle.dpe_base.specs.declared.pair.Pair.{Pair}
 use Rattle.dpe_base.specs.Queries.{JoinQuery, relations, IsQuery}
 use Rattle.dpe_base.specs.Sets.{union, single, size}
 use Rattle.join_graph.specs.Graphs.{graph_of}
-use Rattle.join_tree.specs.Trees.{Made, Least, LeastOfPair, Builds, pair_word}
+use Rattle.join_tree.specs.Trees.{Made, IsEmptyOrMade, Least, LeastOfPair, Builds, leaf_word, pair_word}
 
 -- the set is a relation alone, or the union of a pair of the list
 abbrev pub IsBuilt : JoinQuery → List Pair → ℕ → Type 0
@@ -27,12 +27,12 @@ pub record IsWorkable (kind : ℕ) (q : JoinQuery) (pairs : List Pair) : Type 0 
   pub sized : (p : Pair) → Contains pairs p → size (union p.a p.b) ≤ N_MAX
   pub smaller : (p : Pair) → Contains pairs p → (size p.a < size (union p.a p.b)) × (size p.b < size (union p.a p.b))
   -- what a pair gives on words of its sides is a word of its union, or EMPTY
-  pub sound : (p : Pair) (first second : ℕ) → Contains pairs p → Made kind q pairs p.a first → Made kind q pairs p.b second → (pair_word kind q p first second ≡ EMPTY) ⊎ Made kind q pairs (union p.a p.b) (pair_word kind q p first second)
+  pub sound : (p : Pair) (first second : ℕ) → Contains pairs p → Made kind q pairs p.a first → Made kind q pairs p.b second → IsEmptyOrMade kind q pairs (union p.a p.b) (pair_word kind q p first second)
   -- the sides of a pair, and the sets that have a word, are built by the list
   pub sides : (p : Pair) → Contains pairs p → IsBuilt q pairs p.a × IsBuilt q pairs p.b
   pub built : (s w : ℕ) → Made kind q pairs s w → IsBuilt q pairs s
   -- where the least words come from
-  pub leaves : (r : ℕ) → r < relations q → Least kind q pairs (single r) (3 * SPAN + single r)
+  pub leaves : (r : ℕ) → r < relations q → Least kind q pairs (single r) (leaf_word r)
   pub best_pair : (p : Pair) → Contains pairs p → HasBestPair kind q pairs (union p.a p.b)
 
 abbrev pub BuiltListsAreWorkable : Type 0

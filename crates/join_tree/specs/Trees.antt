@@ -1,7 +1,7 @@
 -- Join trees: their sets, costs and words, the legal ones, the best words and the plan, and the trees
 -- that a list of pairs makes. A model is given by its number, and a set of relations by its number.
 use Rattle.std.specs.Prelude.{◌≡◌, ℕ, ◌+◌, ◌*◌, ◌<◌, ◌≤◌, ◌⊎◌, List, Contains}
-use Rattle.dpe_base.specs.declared.TheConstants.{COST_LIMIT, SPAN}
+use Rattle.dpe_base.specs.declared.TheConstants.{COST_LIMIT, SPAN, EMPTY}
 use Rattle.dpe_base.specs.declared.pair.Pair.{Pair}
 use Rattle.dpe_base.specs.Queries.{JoinQuery, relations}
 use Rattle.dpe_base.specs.Sets.{union, single, Disjoint}
@@ -9,7 +9,7 @@ use Rattle.join_graph.specs.Graphs.{JoinGraph, Crossed, Pairs, pair_of, graph_of
 use Rattle.join_graph.specs.PairLists.{SideBuilt}
 use Rattle.card_scaled.specs.Cards.{rows}
 use Rattle.cost_model.specs.Costs.{operators, join_cost}
-use Rattle.cost_model.specs.Words.{word, best_word}
+use Rattle.cost_model.specs.Words.{word, least_split_word}
 
 -- a relation, or a join of two trees by an operator
 pub data JoinTree : Type 0 where
@@ -44,10 +44,13 @@ cost kind q (join op left right) =
     cost kind q left + cost kind q right
     + join_cost kind op (rows q (set_of left)) (rows q (set_of right)) (rows q (union (set_of left) (set_of right)))
 
--- the word of a tree, with the operator of its root and its left set, or EMPTY where it costs COST_LIMIT or more; a leaf
--- costs nothing, and its word has the operator 3 and its own set
+-- the word of a leaf, which costs nothing: it has the operator 3, which no join has, and its own set
+abbrev pub leaf_word : ℕ → ℕ
+leaf_word r = 3 * SPAN + single r
+
+-- the word of a tree, with the operator of its root and its left set, or EMPTY where it costs COST_LIMIT or more
 abbrev pub root_word : ℕ → JoinQuery → JoinTree → ℕ
-root_word kind q (leaf r) = 3 * SPAN + single r
+root_word kind q (leaf r) = leaf_word r
 root_word kind q (join op left right) = word (cost kind q (join op left right)) op (set_of left)
 
 -- w is the word of the tree
@@ -88,14 +91,18 @@ pub record Made (kind : ℕ) (q : JoinQuery) (pairs : List Pair) (s w : ℕ) : T
   pub over : set_of tree ≡ s
   pub word : HasWord kind q tree w
 
--- and no smaller word is
+-- EMPTY, or such a word
+abbrev pub IsEmptyOrMade : ℕ → JoinQuery → List Pair → ℕ → ℕ → Type 0
+IsEmptyOrMade kind q pairs s w = (w ≡ EMPTY) ⊎ Made kind q pairs s w
+
+-- w is the word of a tree over s that the pairs make, and no smaller word is
 pub record Least (kind : ℕ) (q : JoinQuery) (pairs : List Pair) (s w : ℕ) : Type 0 where
   pub made : Made kind q pairs s w
   pub least : (v : ℕ) → Made kind q pairs s v → w ≤ v
 
 -- the least word of a join of the pair's two sets, over both orders and all operators, on these words of theirs, or EMPTY
 abbrev pub pair_word : ℕ → JoinQuery → Pair → ℕ → ℕ → ℕ
-pair_word kind q p first second = best_word kind p.a p.b first second (rows q p.a) (rows q p.b) (rows q (union p.a p.b))
+pair_word kind q p first second = least_split_word kind p.a p.b first second (rows q p.a) (rows q p.b) (rows q (union p.a p.b))
 
 -- v is the least word of the pair: on the least words of its sides
 pub record LeastOfPair (kind : ℕ) (q : JoinQuery) (pairs : List Pair) (p : Pair) (v : ℕ) : Type 0 where

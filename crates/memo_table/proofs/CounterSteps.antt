@@ -5,7 +5,8 @@ use Rattle.atomic_table.specs.Table.{step, keeps, Allows}
 use Rattle.memo_table.specs.declared.view.View.{View}
 use Rattle.memo_table.specs.declared.view.TreeSpace.{TreeSpace}
 use Rattle.memo_table.specs.Views.{with_ticket, with_floor}
-use Rattle.memo_table.specs.Rule.{counter, Counts, IsEmptyOrMade, IsLive, AreMemoWords, Kept}
+use Rattle.join_tree.specs.Trees.{IsEmptyOrMade}
+use Rattle.memo_table.specs.Rule.{counter, Counts, IsLive, AreMemoWords, Kept}
 use Rattle.memo_table.specs.Steps.{SeatState, draw_tells, look_tells}
 use Rattle.memo_table.proofs.Counting.{staying, drawing, draw_fits, tickets_below, knowing}
 use Rattle.memo_table.proofs.Holding.{live_of, moved, turned, others_spent}
@@ -16,7 +17,7 @@ module _ (kind : ℕ) (space : TreeSpace) where
   memo_beside ws n m = record {
     width = length-set ws 0 n ∙ m.width;
     none = word_beside ws n 0 ∙ m.none;
-    made = λ u. let G : ℕ → Type 0 = IsEmptyOrMade kind space u in subst G (sym (word_beside ws n u)) (m.made u);
+    made = λ u. let G : ℕ → Type 0 = IsEmptyOrMade kind space.query space.pairs u in subst G (sym (word_beside ws n u)) (m.made u);
   }
 
   pub draws : (slots id : ℕ) (me : SeatState) → 1 ≤ me.0.weight → 1 ≤ me.0.allowance → Allows (Kept kind space) slots id me 0 (λ n. (n + 1) % 2 ^ 64) (draw_tells (step slots 0 1 0 none) me)

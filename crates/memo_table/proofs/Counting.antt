@@ -4,7 +4,7 @@ use mathlib.Core.Option.{some, some-injective, some-ne-none}
 use lib.ListN.{get_elem?}
 use Rattle.std.proofs.lemmas.Bool.Decides.{nat_tests}
 use Rattle.std.proofs.lemmas.List.Sums.{sum_by-cons, sum_by-append, sum_by-set, sum_by_push, get_or-le-sum_by}
-use Rattle.memo_table.specs.declared.TheConstants.{WEIGHT, DRAWS}
+use Rattle.dpe_base.specs.declared.TheConstants.{WEIGHT, DRAWS}
 use Rattle.memo_table.specs.declared.view.View.{View}
 use Rattle.memo_table.specs.Views.{times, once_below, EachOnceBelow, spent_view, with_ticket, kept_part, given_part, joined_view}
 use Rattle.memo_table.specs.Rule.{Counts}

@@ -4,8 +4,7 @@ use mathlib.Core.Option.{some, some-injective, some-ne-none}
 use mathlib.Core.Logic.{dite}
 use native.Mathlib.Decide.{ℕ_discrete}
 use lib.ListN.{get_elem?}
-use Rattle.dpe_base.specs.declared.TheConstants.{EMPTY}
-use Rattle.memo_table.specs.declared.TheConstants.{WEIGHT}
+use Rattle.dpe_base.specs.declared.TheConstants.{EMPTY, WEIGHT}
 use Rattle.memo_table.specs.declared.view.View.{View}
 use Rattle.memo_table.specs.declared.view.TreeSpace.{TreeSpace}
 use Rattle.memo_table.specs.Views.{EachOnceBelow}
@@ -28,7 +27,7 @@ module _ (kind : ℕ) (space : TreeSpace) where
       let live = live_of kind space s.words v (k.views id v at) (omega arith) in
       let below : (b : ℕ) → Contains v.bounds (t, b) → (x ≤ b) × (x ≢ EMPTY) = λ b has.
       let g = live.bounds (t, b) has in
-      let low : b < EMPTY = made_below kind space k.listed t b g.made in
+      let low : b < EMPTY = made_below kind space k.listed t b g.is.made in
       let r : x ≤ b = g.reached in (r, omega arith) in record {
         none = (
           (λ e b has. (below b has).1 e),

@@ -6,7 +6,7 @@ use native.Mathlib.Decide.{ℕ_discrete}
 use lib.ListN.{get_elem?}
 use Rattle.std.proofs.lemmas.List.{set-get_or}
 use Rattle.atomic_table.proofs.Lists.{at_set, set_here, set_else}
-use Rattle.memo_table.specs.declared.TheConstants.{WEIGHT}
+use Rattle.dpe_base.specs.declared.TheConstants.{WEIGHT}
 use Rattle.memo_table.specs.declared.view.View.{View}
 use Rattle.memo_table.specs.declared.view.TreeSpace.{TreeSpace}
 use Rattle.memo_table.specs.Views.{spent_view}
@@ -28,7 +28,7 @@ module _ (kind : ℕ) (space : TreeSpace) where
         query = l.query;
         pairs = l.pairs;
         floor = let g = l.floor in omega arith;
-        bounds = λ b h. let g = l.bounds b h in record { some = g.some; within = g.within; made = g.made; reached = let d = down b.0 in let r = g.reached in omega arith };
+        bounds = λ b h. let g = l.bounds b h in record { is = g.is; reached = let d = down b.0 in let r = g.reached in omega arith };
       })
       f
 

@@ -9,7 +9,8 @@ use Rattle.dpe_base.specs.Sets.{single}
 use Rattle.memo_table.specs.declared.view.View.{View}
 use Rattle.memo_table.specs.declared.view.TreeSpace.{TreeSpace}
 use Rattle.memo_table.specs.Views.{with_bound, with_offer}
-use Rattle.memo_table.specs.Making.{leaf_word, HasLeaves, IsOpen}
+use Rattle.join_tree.specs.Trees.{leaf_word}
+use Rattle.memo_table.specs.Making.{HasLeaves, IsOpen}
 use Rattle.memo_table.specs.Rule.{IsTreeSpace}
 use Rattle.memo_table.specs.Seats.{MemoTable, SeatView, Settled}
 use Rattle.dpe_base.proofs.Members.{contains_head, contains_tail, contains_none, contains_cases}

@@ -3,10 +3,9 @@ use Rattle.std.proofs.Common.{ℕ, ◌<◌, arith, refl}
 use Rattle.dpe_base.specs.declared.TheConstants.{EMPTY}
 use Rattle.dpe_base.specs.Queries.{relations}
 use Rattle.dpe_base.specs.Sets.{single}
-use Rattle.join_tree.specs.Trees.{leaf, Made, Least}
+use Rattle.join_tree.specs.Trees.{leaf, leaf_word, Made, Least}
 use Rattle.join_tree.proofs.BestLaws.{made_word, least_single}
 use Rattle.memo_table.specs.declared.view.TreeSpace.{TreeSpace}
-use Rattle.memo_table.specs.Making.{leaf_word}
 use Rattle.memo_table.specs.Rule.{IsTreeSpace}
 
 -- the word of a relation alone is that of its leaf

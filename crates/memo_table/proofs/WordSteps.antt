@@ -10,11 +10,11 @@ use Rattle.dpe_base.specs.declared.TheConstants.{EMPTY}
 use Rattle.dpe_base.specs.Queries.{relations}
 use Rattle.dpe_base.specs.Sets.{Within, full}
 use Rattle.dpe_base.proofs.SizeLaws.{full_below}
-use Rattle.join_tree.specs.Trees.{Made}
+use Rattle.join_tree.specs.Trees.{Made, IsEmptyOrMade}
 use Rattle.memo_table.specs.declared.view.View.{View}
 use Rattle.memo_table.specs.declared.view.TreeSpace.{TreeSpace}
 use Rattle.memo_table.specs.Views.{with_bound, with_offer}
-use Rattle.memo_table.specs.Rule.{TableState, memo_word, counter, Counts, IsEmptyOrMade, IsBound, IsLive, IsTreeSpace, AreMemoWords, Kept}
+use Rattle.memo_table.specs.Rule.{TableState, memo_word, counter, Counts, IsBound, IsLive, IsTreeSpace, AreMemoWords, Kept}
 use Rattle.memo_table.specs.Steps.{SeatState, FindsWord, load_tells, offer_tells}
 use Rattle.dpe_base.proofs.Members.{contains_head, contains_tail, contains_cases}
 use Rattle.memo_table.proofs.Counting.{staying}
@@ -28,8 +28,8 @@ module _ (kind : ℕ) (space : TreeSpace) where
       → (t + 1 < length ws) × (memo_word ws t ≡ get_or ws (t + 1) 0) × Made kind space.query space.pairs t (memo_word ws t) × (memo_word ws t < EMPTY)
   found ws v t y is memo live h =
       let g = live.bounds (t, y) h in
-      let inside : t + 1 < length ws = let w = memo.width in let i = full_below t (relations space.query) g.within in omega arith in
-      let low : memo_word ws t < EMPTY = let r = g.reached in let m = made_below kind space is t y g.made in omega arith in (
+      let inside : t + 1 < length ws = let w = memo.width in let i = full_below t (relations space.query) g.is.within in omega arith in
+      let low : memo_word ws t < EMPTY = let r = g.reached in let m = made_below kind space is t y g.is.made in omega arith in (
         inside,
         get_or_default ws (t + 1) EMPTY 0 inside,
         ⊎_elim (λ (e : memo_word ws t ≡ EMPTY). absurd (omega arith)) (λ m. m) (memo.made t),
@@ -46,7 +46,7 @@ module _ (kind : ℕ) (space : TreeSpace) where
     bounds = λ b has. ⊎_elim
         (λ (e : (t, memo_word s.words t) ≡ b).
         let F : ℕ × ℕ → Type 0 = IsBound kind space s.words in
-        subst F e record { some = g.some; within = g.within; made = f.2; reached = le_refl _ })
+        subst F e record { is = record { some = g.is.some; within = g.is.within; made = f.2 }; reached = le_refl _ })
         (λ old. live.bounds b old)
         (contains_cases (t, memo_word s.words t) v.bounds b has);
   }
@@ -84,7 +84,7 @@ module _ (kind : ℕ) (space : TreeSpace) where
       dec_elim (no d) = inr (omega arith, omega arith)
 
   -- the words after a fetch_min
-  module _ (s : TableState) (t w : ℕ) (k : Kept kind space s) (some' : t ≢ 0) (within : Within t (full (relations space.query))) (word : IsEmptyOrMade kind space t w) where
+  module _ (s : TableState) (t w : ℕ) (k : Kept kind space s) (some' : t ≢ 0) (within : Within t (full (relations space.query))) (word : IsEmptyOrMade kind space.query space.pairs t w) where
     abbrev n : ℕ
     n = get_or s.words (t + 1) 0
 
@@ -111,10 +111,10 @@ module _ (kind : ℕ) (space : TreeSpace) where
       none = word_else s.words (min n w) t 0 (λ e. omega arith) ∙ k.words.none;
       made = λ u. dite (ℕ_discrete u t)
           (λ (e : u ≡ t).
-          let F : ℕ → Type 0 = λ a. IsEmptyOrMade kind space a (memo_word lowered a) in
-          let G : ℕ → Type 0 = IsEmptyOrMade kind space t in
+          let F : ℕ → Type 0 = λ a. IsEmptyOrMade kind space.query space.pairs a (memo_word lowered a) in
+          let G : ℕ → Type 0 = IsEmptyOrMade kind space.query space.pairs t in
           subst F (sym e) (subst G (sym now) (⊎_elim (λ (h : (n ≤ w) × (min n w ≡ n)). subst G (was ∙ sym h.1) (k.words.made t)) (λ (h : (w ≤ n) × (min n w ≡ w)). subst G (sym h.1) word) (min_is n w))))
-          (λ (ne : u ≢ t). let G : ℕ → Type 0 = IsEmptyOrMade kind space u in subst G (sym (word_else s.words (min n w) t u ne)) (k.words.made u));
+          (λ (ne : u ≢ t). let G : ℕ → Type 0 = IsEmptyOrMade kind space.query space.pairs u in subst G (sym (word_else s.words (min n w) t u ne)) (k.words.made u));
     }
 
     up : counter s.words ≤ counter lowered
@@ -150,15 +150,15 @@ module _ (kind : ℕ) (space : TreeSpace) where
           bounds = λ b has. ⊎_elim
               (λ (e : (t, w) ≡ b).
               let F : ℕ × ℕ → Type 0 = IsBound kind space lowered in
-              subst F e record { some = some'; within = within; made = made; reached = let p = now in omega arith })
-              (λ old. let g = live.bounds b old in record { some = g.some; within = g.within; made = g.made; reached = let d = lower b.0 in let r = g.reached in omega arith })
+              subst F e record { is = record { some = some'; within = within; made = made }; reached = let p = now in omega arith })
+              (λ old. let g = live.bounds b old in record { is = g.is; reached = let d = lower b.0 in let r = g.reached in omega arith })
               (contains_cases (t, w) v.bounds b has);
         } in
         moved kind space s (t + 1) (min n w) id v (with_bound v t w) k at up lower memo cover (λ b h. contains_tail (t, w) v.bounds b h) live'
         (let F : ℕ → Type 0 = λ a. Counts a (set s.views id (with_bound v t w)) in
         subst F (sym (counter_beside s.words (min n w) t)) (staying (counter s.words) s.views id v (with_bound v t w) k.counts at refl refl refl))
 
-  pub offers : (slots id : ℕ) (me : SeatState) (t w : ℕ) → 1 ≤ me.0.weight → t ≢ 0 → Within t (full (relations space.query)) → IsEmptyOrMade kind space t w
+  pub offers : (slots id : ℕ) (me : SeatState) (t w : ℕ) → 1 ≤ me.0.weight → t ≢ 0 → Within t (full (relations space.query)) → IsEmptyOrMade kind space.query space.pairs t w
       → Allows (Kept kind space) slots id me (t + 1) (λ n. min n w) (offer_tells (step slots (t + 1) w 0 none) me)
   offers slots id me t w heavy some' within word s k home at small =
       let v : View = me.0 in

@@ -1,9 +1,10 @@
 -- How a memo begins.
-use Rattle.std.specs.Prelude.{◌≡◌, ℕ, ◌+◌, ◌*◌, ◌^◌, ◌<◌, ◌↔◌, List, slice_set, replicate, Contains}
-use Rattle.dpe_base.specs.declared.TheConstants.{EMPTY, SPAN}
+use Rattle.std.specs.Prelude.{◌≡◌, ℕ, ◌+◌, ◌^◌, ◌<◌, ◌↔◌, List, slice_set, replicate, Contains}
+use Rattle.dpe_base.specs.declared.TheConstants.{EMPTY}
 use Rattle.dpe_base.specs.declared.pair.Pair.{Pair}
 use Rattle.dpe_base.specs.Queries.{JoinQuery}
 use Rattle.dpe_base.specs.Sets.{single}
+use Rattle.join_tree.specs.Trees.{leaf_word}
 use Rattle.memo_table.specs.declared.view.View.{View}
 use Rattle.memo_table.specs.declared.view.TreeSpace.{TreeSpace}
 use Rattle.memo_table.specs.Seats.{MemoTable, SeatView, IsSeatOf}
@@ -14,10 +15,6 @@ space_of q pairs = record { query = q; pairs = pairs }
 -- the counter at 0, and an empty word for each set of n relations
 abbrev pub opening_words : ℕ → List ℕ
 opening_words n = slice_set (replicate (2 ^ n + 1) EMPTY) 0 0
-
--- the word of the relation alone
-abbrev pub leaf_word : ℕ → ℕ
-leaf_word r = 3 * SPAN + single r
 
 -- the bounds are those of the first n relations alone, each with its word
 abbrev pub HasLeaves : ℕ → View → Type 0

@@ -3,15 +3,14 @@ use Rattle.std.specs.Prelude.{◌≡◌, ◌≢◌, ℕ, ◌+◌, ◌^◌, ◌�
 use mathlib.Core.Option.{some}
 use lib.ListN.{get_elem?}
 use Rattle.atomic_table.specs.Table.{State}
-use Rattle.dpe_base.specs.declared.TheConstants.{EMPTY}
+use Rattle.dpe_base.specs.declared.TheConstants.{EMPTY, WEIGHT, DRAWS}
 use Rattle.dpe_base.specs.declared.pair.Pair.{Pair}
 use Rattle.dpe_base.specs.Queries.{IsQuery, relations}
-use Rattle.dpe_base.specs.Sets.{Within, full}
 use Rattle.join_graph.specs.Graphs.{Pairs, graph_of}
-use Rattle.join_tree.specs.Trees.{Made}
-use Rattle.memo_table.specs.declared.TheConstants.{WEIGHT, DRAWS}
+use Rattle.join_tree.specs.Trees.{IsEmptyOrMade}
 use Rattle.memo_table.specs.declared.view.View.{View}
 use Rattle.memo_table.specs.declared.view.TreeSpace.{TreeSpace}
+use Rattle.memo_table.specs.Seats.{IsMadeBound}
 use Rattle.memo_table.specs.Views.{times, once_below, spent_view}
 
 abbrev pub TableState : Type 0
@@ -46,14 +45,9 @@ pub record IsTreeSpace (space : TreeSpace) : Type 0 where
   pub pairs : (p : Pair) → Contains space.pairs p → Pairs (graph_of space.query) p
 
 module _ (kind : ℕ) (space : TreeSpace) where
-  abbrev pub IsEmptyOrMade : ℕ → ℕ → Type 0
-  IsEmptyOrMade s w = (w ≡ EMPTY) ⊎ Made kind space.query space.pairs s w
-
-  -- the set is not empty, the word is that of a tree over it, and the set's memo word is no greater
+  -- what a seat may know of a set's word, which is no greater
   pub record IsBound (words : List ℕ) (b : ℕ × ℕ) : Type 0 where
-    pub some : b.0 ≢ 0
-    pub within : Within b.0 (full (relations space.query))
-    pub made : Made kind space.query space.pairs b.0 b.1
+    pub is : IsMadeBound kind space.query space.pairs b
     pub reached : memo_word words b.0 ≤ b.1
 
   -- what a seat that is not spent knows is true
@@ -68,7 +62,7 @@ module _ (kind : ℕ) (space : TreeSpace) where
   pub record AreMemoWords (words : List ℕ) : Type 0 where
     pub width : length words ≡ 2 ^ relations space.query + 1
     pub none : memo_word words 0 ≡ EMPTY
-    pub made : (s : ℕ) → IsEmptyOrMade s (memo_word words s)
+    pub made : (s : ℕ) → IsEmptyOrMade kind space.query space.pairs s (memo_word words s)
 
   pub record Kept (s : TableState) : Type 0 where
     pub listed : IsTreeSpace space

@@ -1,9 +1,8 @@
 -- What each kind of step tells its seat.
 use Rattle.std.specs.Prelude.{◌≡◌, ℕ, ◌+◌, ◌<◌, ◌≤◌, All, Contains}
 use Rattle.atomic_table.specs.Table.{Me, Step}
-use Rattle.dpe_base.specs.declared.TheConstants.{EMPTY}
+use Rattle.dpe_base.specs.declared.TheConstants.{EMPTY, WEIGHT}
 use Rattle.join_tree.specs.Trees.{Made}
-use Rattle.memo_table.specs.declared.TheConstants.{WEIGHT}
 use Rattle.memo_table.specs.declared.view.View.{View}
 use Rattle.memo_table.specs.declared.view.TreeSpace.{TreeSpace}
 use Rattle.memo_table.specs.Views.{EachOnceBelow, with_bound, with_offer, with_ticket, with_floor}

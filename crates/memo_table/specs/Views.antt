@@ -1,7 +1,6 @@
 -- Views: how often a number stands in a list, and what each call makes of a view.
 use Rattle.std.specs.Prelude.{◌≡◌, ℕ, ◌+◌, ◌-◌, ◌==◌, nat_lt, max, if◌then◌else◌, List, [], ◌∷◌, ◌++◌, length, count_by}
-use Rattle.dpe_base.specs.declared.TheConstants.{EMPTY}
-use Rattle.memo_table.specs.declared.TheConstants.{WEIGHT, DRAWS}
+use Rattle.dpe_base.specs.declared.TheConstants.{EMPTY, WEIGHT, DRAWS}
 use Rattle.memo_table.specs.declared.view.View.{View}
 use Rattle.memo_table.specs.declared.view.TreeSpace.{TreeSpace}
 

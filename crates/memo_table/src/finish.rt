@@ -5,10 +5,10 @@ ghost use Rattle.memo_table.specs.Finishing.{IsLeastBound};
 ghost use Rattle.memo_table.specs.Seats.{IsSeatOf, BoundsAreMade};
 ghost use Rattle.memo_table.specs.Views.{EachOnceBelow};
 
-use crate::WEIGHT;
 use crate::memo::Memo;
 use crate::seat::MemoSeat;
 use cost_model::CostModel;
+use dpe_base::WEIGHT;
 use std::marker::Model;
 
 /// The word of each set when the memo was finished, and how many numbers were drawn. No step changes them any more.

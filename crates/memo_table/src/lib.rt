@@ -29,9 +29,3 @@ pub use finish::Words;
 pub use memo::Memo;
 pub use seat::MemoSeat;
 pub use view::{TreeSpace, View};
-
-/// What the weights of all seats sum to: a main seat, and at most 64 workers.
-pub const WEIGHT: u64 = 65;
-
-/// What the counter and the allowances of all seats sum to.
-pub const DRAWS: u64 = 1 << 62;

@@ -2,18 +2,17 @@
 ghost use Rattle.std.specs.Prelude.{◌≡◌, ◌≢◌, ◌⊎◌, ℕ, ◌+◌, ◌≤◌, ◌<◌, All, Contains};
 ghost use Rattle.dpe_base.specs.Queries.{relations};
 ghost use Rattle.dpe_base.specs.Sets.{Within, full};
-ghost use Rattle.join_tree.specs.Trees.{Made};
+ghost use Rattle.join_tree.specs.Trees.{IsEmptyOrMade, Made};
 ghost use Rattle.memo_table.specs.Seats.{IsSeatOf, BoundsAreMade};
 ghost use Rattle.memo_table.specs.Views.{EachOnceBelow, with_bound, with_offer, with_ticket, with_floor};
 
-use crate::WEIGHT;
 use crate::rule::{Key, MemoRule};
 use crate::seat::MemoSeat;
 use crate::steps::{find_counter, find_word, lower_word, take_ticket};
 use crate::view::View;
 use atomic_table::Table;
 use cost_model::CostModel;
-use dpe_base::{EMPTY, RelSet};
+use dpe_base::{EMPTY, RelSet, WEIGHT};
 use std::alloc::Global;
 use std::marker::Model;
 
@@ -67,7 +66,7 @@ impl<M: CostModel> Memo<M> {
         requires seat { IsSeatOf self.now seat.old }
         requires some { s ≢ 0 }
         requires within { Within s (full (relations self.now.query)) }
-        requires word { (w ≡ EMPTY) ⊎ Made M.KIND self.now.query self.now.pairs s w }
+        requires word { IsEmptyOrMade M.KIND self.now.query self.now.pairs s w }
         ensures table { seat.new.table ≡ seat.old.table }
         ensures view { seat.new.view ≡ with_offer seat.old.view s w }
     {

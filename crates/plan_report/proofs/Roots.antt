@@ -1,13 +1,12 @@
 -- What the best word of a set says of the root of its plan.
-use Rattle.std.proofs.Common.{◌≡◌, ◌≢◌, ℕ, ◌+◌, ◌*◌, ◌<◌, arith, refl, sym, ◌∙◌, ap, subst}
-use Rattle.dpe_base.specs.declared.TheConstants.{SPAN}
+use Rattle.std.proofs.Common.{◌≡◌, ◌≢◌, ℕ, ◌<◌, arith, refl, sym, ◌∙◌, ap, subst}
 use Rattle.dpe_base.specs.Queries.{JoinQuery, relations, IsQuery}
 use Rattle.dpe_base.specs.Sets.{Within, IsLeast, minus, single, full, size}
 use Rattle.dpe_base.proofs.SetLaws.{sets, member-same}
 use Rattle.dpe_base.proofs.SizeLaws.{size-single, size-empty, size_one}
 use Rattle.join_graph.specs.Graphs.{Connected, graph_of}
 use Rattle.cost_model.specs.Words.{word_op, word_left}
-use Rattle.join_tree.specs.Trees.{JoinTree, leaf, join, set_of, Legal, HasWord, Best, Plan}
+use Rattle.join_tree.specs.Trees.{JoinTree, leaf, join, leaf_word, set_of, Legal, HasWord, Best, Plan}
 use Rattle.plan_report.specs.declared.plan.Root.{Root}
 use Rattle.plan_report.specs.Words.{IsRoot}
 use Rattle.join_tree.proofs.TreeLaws.{join_size}
@@ -24,14 +23,14 @@ pub none_alone : (s : ℕ) → s ≡ 0 → size s ≡ 1 → ⊥
 none_alone s e one = omega (arith, ap size e, size-empty)
 
 -- the best word of a relation is its leaf's
-pub best_leaf : (kind : ℕ) (q : JoinQuery) (r : ℕ) → r < relations q → Best kind q (single r) (3 * SPAN + single r)
+pub best_leaf : (kind : ℕ) (q : JoinQuery) (r : ℕ) → r < relations q → Best kind q (single r) (leaf_word r)
 best_leaf kind q r known =
     record {
       some = (leaf r, known, refl, record { below = omega arith; is = refl });
       least = λ t v m over has. rw (← only t v m over has) (omega arith);
     }
   where
-    only : (t : JoinTree) (v : ℕ) → Legal kind (graph_of q) t → set_of t ≡ single r → HasWord kind q t v → 3 * SPAN + single r ≡ v
+    only : (t : JoinTree) (v : ℕ) → Legal kind (graph_of q) t → set_of t ≡ single r → HasWord kind q t v → leaf_word r ≡ v
     only (leaf k) v m over has = omega (arith, has.is, over)
     only (join op x y) v m over has = absurd (omega (arith, join_size kind (graph_of q) op x y m, ap size over, size-single r))
 

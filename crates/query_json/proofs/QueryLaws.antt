@@ -14,7 +14,7 @@ use Rattle.dpe_base.specs.declared.query.Rel.{Rel}
 use Rattle.dpe_base.specs.declared.query.Pred.{Pred}
 use Rattle.dpe_base.specs.declared.query.QueryFault.{QueryFault}
 use Rattle.dpe_base.specs.Queries.{JoinQuery, IsQuery, is_fraction, is_pred, is_rel, query_fault, relations}
-use Rattle.dpe_base.proofs.QueryLaws.{preds_valid, rels_valid}
+use Rattle.dpe_base.proofs.QueryLaws.{every_pass}
 use Rattle.query_json.specs.declared.file.Table.{Table}
 use Rattle.query_json.specs.declared.file.Column.{Column}
 use Rattle.query_json.specs.declared.file.Ratio.{Ratio}
@@ -205,8 +205,8 @@ is_query tables rs js q f =
       some = omega (arith, length-all_of (rel_of tables) 0 rs q.rels f.rels, sized_within rs f.size);
       few = omega (arith, length-all_of (rel_of tables) 0 rs q.rels f.rels, sized_within rs f.size);
       few_preds = omega (arith, length-all_of (pred_of tables rs) 0 js q.preds f.preds, f.few_joins);
-      rels = rels_valid q.rels (none_fails is_rel q.rels (rels_pass tables rs js q f));
-      preds = preds_valid (length q.rels) q.preds (none_fails (is_pred (length q.rels)) q.preds (preds_pass tables rs js q f));
+      rels = every_pass is_rel q.rels (none_fails is_rel q.rels (rels_pass tables rs js q f));
+      preds = every_pass (is_pred (length q.rels)) q.preds (none_fails (is_pred (length q.rels)) q.preds (preds_pass tables rs js q f));
     }
 
 no_fault : (tables : List Table) (rs : List RelationItem) (js : List JoinItem) (q : JoinQuery) → Found tables rs js q → query_fault q.rels q.preds ≡ None

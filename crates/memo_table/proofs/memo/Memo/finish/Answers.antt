@@ -1,7 +1,7 @@
 use Rattle.std.proofs.Common.{rules, arith, ◌≡◌, ◌<◌, ◌^◌, ℕ, length, subst, ap, ◌∙◌, get_or}
 use Rattle.std.specs.Slots.{slots_items}
 use Rattle.dpe_base.specs.Queries.{relations}
-use Rattle.memo_table.specs.declared.TheConstants.{WEIGHT}
+use Rattle.dpe_base.specs.declared.TheConstants.{WEIGHT}
 use Rattle.memo_table.specs.Finishing.{IsLeastBound}
 use Rattle.memo_table.specs.Views.{EachOnceBelow}
 use Rattle.memo_table.specs.Rule.{memo_word, counter}
