@@ -13,7 +13,7 @@ use Rattle.memo_table.specs.Views.{EachOnceBelow}
 use Rattle.reorder_buffer.specs.declared.TheConstants.{SIZES}
 use Rattle.reorder_buffer.specs.Buffers.{AreSmall}
 use Rattle.reorder_buffer.specs.Groups.{union_size, group_of, groups_below}
-use Rattle.dpe_engine.specs.Rounds.{MayTurn, HasTurned}
+use Rattle.dpe_engine.specs.Rounds.{MayWorkRound, HasWorkedRound}
 use Rattle.dpe_engine.specs.Between.{below, IsBetween, IsShared}
 use Rattle.dpe_engine.proofs.PairSteps.{stays_settled}
 use Rattle.dpe_engine.proofs.Bursts.{more_done}
@@ -27,8 +27,8 @@ workable kind memo cards workers shared = built_lists_are_workable kind memo.que
 pub list_few : (memo : MemoTable) (cards : RowTable) (workers : ℕ) → IsShared memo cards workers → length memo.pairs ≤ 2 ^ 32
 list_few memo cards workers shared = few_in_all memo.query memo.pairs shared.planned.query shared.planned.builds shared.ordered.once
 
-module _ (kind : ℕ) (memo : MemoTable) (cards : RowTable) (workers : ℕ) (done buffer rest : List Pair) (n turns : ℕ) (s : SeatView)
-    (shared : IsShared memo cards workers) (is : memo.pairs ≡ done ++ (buffer ++ rest)) (b : IsBetween kind memo workers (done ++ below n buffer) turns s) where
+module _ (kind : ℕ) (memo : MemoTable) (cards : RowTable) (workers : ℕ) (done buffer rest : List Pair) (n rounds_done : ℕ) (s : SeatView)
+    (shared : IsShared memo cards workers) (is : memo.pairs ≡ done ++ (buffer ++ rest)) (b : IsBetween kind memo workers (done ++ below n buffer) rounds_done s) where
   law : IsWorkable kind memo.query memo.pairs
   law = workable kind memo cards workers shared
 
@@ -80,8 +80,8 @@ module _ (kind : ℕ) (memo : MemoTable) (cards : RowTable) (workers : ℕ) (don
       let f = length-append buffer rest in
       let g = list_few memo cards workers shared in omega arith
 
-  pub may_turn : MayTurn kind memo workers (group_of n buffer) s
-  may_turn =
+  pub may_work_round : MayWorkRound kind memo workers (group_of n buffer) s
+  may_work_round =
       let group : List Pair = group_of n buffer in
       record {
         some = shared.some;
@@ -90,7 +90,7 @@ module _ (kind : ℕ) (memo : MemoTable) (cards : RowTable) (workers : ℕ) (don
         weight = b.weight;
         allowance =
             let a = b.allowance in let t = b.few in let f = finished_few in let g = group_few in
-            let c : workers * turns ≤ 64 * turns = mul-le-mul_right turns shared.few in
+            let c : workers * rounds_done ≤ 64 * rounds_done = mul-le-mul_right rounds_done shared.few in
             let d : workers * (length group + 1) ≤ 64 * (length group + 1) = mul-le-mul_right (length group + 1) shared.few in omega arith;
         workable = record {
           listed = λ p c. rw b.seat.pairs (in_list p (in_group n buffer p c).0);
@@ -106,13 +106,13 @@ module _ (kind : ℕ) (memo : MemoTable) (cards : RowTable) (workers : ℕ) (don
       }
 
 -- a round more
-pub after_turn : (kind : ℕ) (memo : MemoTable) (workers base turns : ℕ) (finished group : List Pair) (s t : SeatView) → IsBetween kind memo workers finished turns s → HasTurned kind memo base workers group s t → 1 ≤ length group
-    → IsBetween kind memo workers (finished ++ group) (turns + 1) t
-after_turn kind memo workers base turns finished group s t b w some =
+pub after_round : (kind : ℕ) (memo : MemoTable) (workers base rounds_done : ℕ) (finished group : List Pair) (s t : SeatView) → IsBetween kind memo workers finished rounds_done s → HasWorkedRound kind memo base workers group s t → 1 ≤ length group
+    → IsBetween kind memo workers (finished ++ group) (rounds_done + 1) t
+after_round kind memo workers base rounds_done finished group s t b w some =
     let q : t.view.query ≡ s.view.query = w.seat.query ∙ sym b.seat.query in
     let l : t.view.pairs ≡ s.view.pairs = w.seat.pairs ∙ sym b.seat.pairs in
     let n = length-append finished group in
-    let m : workers * (turns + 1) ≡ workers * turns + workers * 1 = mul-add workers turns 1 in
+    let m : workers * (rounds_done + 1) ≡ workers * rounds_done + workers * 1 = mul-add workers rounds_done 1 in
     let began = w.began.count in let counted = b.tickets.count in
     record {
       seat = w.seat;
@@ -124,22 +124,22 @@ after_turn kind memo workers base turns finished group s t b w some =
           (λ (new : Contains group p). w.done p new)
           (Contains-append_cases finished group p h);
       tickets = let F : ℕ → Type 0 = λ k. EachOnceBelow k t.view.tickets in
-          let e : base + length group + workers ≡ length (finished ++ group) + workers * (turns + 1) = omega arith in subst F e w.tickets;
+          let e : base + length group + workers ≡ length (finished ++ group) + workers * (rounds_done + 1) = omega arith in subst F e w.tickets;
       allowance = let a = w.allowance in let c = b.allowance in omega arith;
       few = let a = b.few in omega arith;
     }
 
 -- the same pairs in another order
-pub between_same : (kind : ℕ) (memo : MemoTable) (workers turns : ℕ) (xs ys : List Pair) (s : SeatView) → IsBetween kind memo workers xs turns s → ((p : Pair) → Contains ys p → Contains xs p) → length ys ≡ length xs
-    → IsBetween kind memo workers ys turns s
-between_same kind memo workers turns xs ys s b all same =
+pub between_same : (kind : ℕ) (memo : MemoTable) (workers rounds_done : ℕ) (xs ys : List Pair) (s : SeatView) → IsBetween kind memo workers xs rounds_done s → ((p : Pair) → Contains ys p → Contains xs p) → length ys ≡ length xs
+    → IsBetween kind memo workers ys rounds_done s
+between_same kind memo workers rounds_done xs ys s b all same =
     record {
       seat = b.seat;
       weight = b.weight;
       made = b.made;
       leaves = b.leaves;
       done = λ p h. b.done p (all p h);
-      tickets = let F : ℕ → Type 0 = λ k. EachOnceBelow (k + workers * turns) s.view.tickets in subst F (sym same) b.tickets;
+      tickets = let F : ℕ → Type 0 = λ k. EachOnceBelow (k + workers * rounds_done) s.view.tickets in subst F (sym same) b.tickets;
       allowance = let a = b.allowance in omega arith;
       few = let a = b.few in omega arith;
     }
@@ -155,21 +155,21 @@ one_of n done buffer p c =
     (Contains-append_cases done (below (n + 1) buffer) p c))
 
 -- the group of the next size joins those before it
-pub next_group : (kind : ℕ) (memo : MemoTable) (workers turns n : ℕ) (done buffer : List Pair) (s : SeatView) → IsBetween kind memo workers ((done ++ below n buffer) ++ group_of n buffer) turns s
-    → IsBetween kind memo workers (done ++ below (n + 1) buffer) turns s
-next_group kind memo workers turns n done buffer s b =
-    between_same kind memo workers turns ((done ++ below n buffer) ++ group_of n buffer) (done ++ below (n + 1) buffer) s b (one_of n done buffer)
+pub next_group : (kind : ℕ) (memo : MemoTable) (workers rounds_done n : ℕ) (done buffer : List Pair) (s : SeatView) → IsBetween kind memo workers ((done ++ below n buffer) ++ group_of n buffer) rounds_done s
+    → IsBetween kind memo workers (done ++ below (n + 1) buffer) rounds_done s
+next_group kind memo workers rounds_done n done buffer s b =
+    between_same kind memo workers rounds_done ((done ++ below n buffer) ++ group_of n buffer) (done ++ below (n + 1) buffer) s b (one_of n done buffer)
     (let a = length-append (done ++ below n buffer) (group_of n buffer) in
     let c = length-append done (below n buffer) in
     let d = length-append done (below (n + 1) buffer) in
     let e = length-below n buffer in omega arith)
 
 -- an empty group is no round
-pub no_turn : (kind : ℕ) (memo : MemoTable) (workers turns n : ℕ) (done buffer : List Pair) (s : SeatView) → IsBetween kind memo workers (done ++ below n buffer) turns s → length (group_of n buffer) ≡ 0
-    → IsBetween kind memo workers (done ++ below (n + 1) buffer) turns s
-no_turn kind memo workers turns n done buffer s b none =
-    next_group kind memo workers turns n done buffer s
-    (between_same kind memo workers turns (done ++ below n buffer) ((done ++ below n buffer) ++ group_of n buffer) s b
+pub no_round : (kind : ℕ) (memo : MemoTable) (workers rounds_done n : ℕ) (done buffer : List Pair) (s : SeatView) → IsBetween kind memo workers (done ++ below n buffer) rounds_done s → length (group_of n buffer) ≡ 0
+    → IsBetween kind memo workers (done ++ below (n + 1) buffer) rounds_done s
+no_round kind memo workers rounds_done n done buffer s b none =
+    next_group kind memo workers rounds_done n done buffer s
+    (between_same kind memo workers rounds_done (done ++ below n buffer) ((done ++ below n buffer) ++ group_of n buffer) s b
     (λ p c. ⊎_elim
     (λ (a : Contains (done ++ below n buffer) p). a)
     (λ (a : Contains (group_of n buffer) p). let h : a.0 < length (group_of n buffer) = a.1 in absurd (omega arith))
@@ -177,27 +177,27 @@ no_turn kind memo workers turns n done buffer s b none =
     (let a = length-append (done ++ below n buffer) (group_of n buffer) in omega arith))
 
 -- all groups of the buffer are the buffer
-pub buffer_done : (kind : ℕ) (memo : MemoTable) (cards : RowTable) (workers turns : ℕ) (done buffer rest : List Pair) (s : SeatView) → IsShared memo cards workers → memo.pairs ≡ done ++ (buffer ++ rest)
-    → IsBetween kind memo workers (done ++ below SIZES buffer) turns s → IsBetween kind memo workers (done ++ buffer) turns s
-buffer_done kind memo cards workers turns done buffer rest s shared is b =
+pub buffer_done : (kind : ℕ) (memo : MemoTable) (cards : RowTable) (workers rounds_done : ℕ) (done buffer rest : List Pair) (s : SeatView) → IsShared memo cards workers → memo.pairs ≡ done ++ (buffer ++ rest)
+    → IsBetween kind memo workers (done ++ below SIZES buffer) rounds_done s → IsBetween kind memo workers (done ++ buffer) rounds_done s
+buffer_done kind memo cards workers rounds_done done buffer rest s shared is b =
     let sized : (p : Pair) → Contains buffer p → union_size p < SIZES = λ p c.
     let F : List Pair → Type 0 = λ l. Contains l p in
     let listed : Contains memo.pairs p = subst F (sym is) (Contains-append_right done (buffer ++ rest) p (Contains-append_left buffer rest p c)) in
     let low = (workable kind memo cards workers shared).sized p listed in
     let u = union_size_is p in omega arith in
     let small : AreSmall buffer = λ k d h. sized (get_or buffer k d) (Contains-get_or buffer k d h) in
-    let F : List Pair → Type 0 = λ l. IsBetween kind memo workers (done ++ l) turns s in
+    let F : List Pair → Type 0 = λ l. IsBetween kind memo workers (done ++ l) rounds_done s in
     subst F (all_sizes buffer small) b
 
 -- before the first group
-pub begins_buffer : (kind : ℕ) (memo : MemoTable) (workers turns : ℕ) (done buffer : List Pair) (s : SeatView) → IsBetween kind memo workers done turns s → IsBetween kind memo workers (done ++ below 0 buffer) turns s
-begins_buffer kind memo workers turns done buffer s b =
+pub begins_buffer : (kind : ℕ) (memo : MemoTable) (workers rounds_done : ℕ) (done buffer : List Pair) (s : SeatView) → IsBetween kind memo workers done rounds_done s → IsBetween kind memo workers (done ++ below 0 buffer) rounds_done s
+begins_buffer kind memo workers rounds_done done buffer s b =
     let e : done ++ below 0 buffer ≡ done = ap (λ (l : List Pair). done ++ l) (none_below buffer) ∙ append-nil done in
-    let F : List Pair → Type 0 = λ l. IsBetween kind memo workers l turns s in subst F (sym e) b
+    let F : List Pair → Type 0 = λ l. IsBetween kind memo workers l rounds_done s in subst F (sym e) b
 
-pub none_turned : (turns : ℕ) (buffer : List Pair) → turns ≡ turns + length (groups_below 0 buffer)
+pub none_counted : (rounds_done : ℕ) (buffer : List Pair) → rounds_done ≡ rounds_done + length (groups_below 0 buffer)
 unfolding groups_below
-none_turned turns buffer = omega arith
+none_counted rounds_done buffer = omega arith
 
-pub turned_on : (n turns total total' : ℕ) (buffer : List Pair) → total ≡ turns + length (groups_below n buffer) → total' + length (groups_below n buffer) ≡ total + length (groups_below (n + 1) buffer) → total' ≡ turns + length (groups_below (n + 1) buffer)
-turned_on n turns total total' buffer a b = omega arith
+pub counted_on : (n rounds_done total total' : ℕ) (buffer : List Pair) → total ≡ rounds_done + length (groups_below n buffer) → total' + length (groups_below n buffer) ≡ total + length (groups_below (n + 1) buffer) → total' ≡ rounds_done + length (groups_below (n + 1) buffer)
+counted_on n rounds_done total total' buffer a b = omega arith

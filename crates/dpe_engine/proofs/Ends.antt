@@ -35,9 +35,9 @@ least_word kind v s w made settled bound =
     }
 
 -- at the end each set that has a tree is settled
-all_settled : (kind : ℕ) (memo : MemoTable) (cards : RowTable) (workers turns : ℕ) (v : SeatView) → IsShared memo cards workers → IsBetween kind memo workers memo.pairs turns v
+all_settled : (kind : ℕ) (memo : MemoTable) (cards : RowTable) (workers rounds_done : ℕ) (v : SeatView) → IsShared memo cards workers → IsBetween kind memo workers memo.pairs rounds_done v
     → (s x : ℕ) → Made kind v.view.query v.view.pairs s x → Settled kind v.view s
-all_settled kind memo cards workers turns v shared b s x made =
+all_settled kind memo cards workers rounds_done v shared b s x made =
     let q = b.seat.query in
     let all = b.seat.pairs in
     let law : IsWorkable kind v.view.query v.view.pairs = rw (q, all) (workable kind memo cards workers shared) in
@@ -47,10 +47,10 @@ all_settled kind memo cards workers turns v shared b s x made =
     built_settled kind v.view (rw q shared.planned.query) b.made s law (subst G (sym q) b.leaves) (law.built s x made) (λ r c over. rw (q, all) (b.done r (back r c)))
 
 -- the words at the end
-pub words_are : (kind : ℕ) (memo : MemoTable) (cards : RowTable) (workers turns : ℕ) (v : SeatView) → IsShared memo cards workers → IsBetween kind memo workers memo.pairs turns v
+pub words_are : (kind : ℕ) (memo : MemoTable) (cards : RowTable) (workers rounds_done : ℕ) (v : SeatView) → IsShared memo cards workers → IsBetween kind memo workers memo.pairs rounds_done v
     → (s w : ℕ) → IsLeastBound v.view.bounds s w → IsLeastWord kind memo.query memo.pairs s w
-words_are kind memo cards workers turns v shared b s w bound =
-    let least = least_word kind v.view s w b.made (all_settled kind memo cards workers turns v shared b s) bound in
+words_are kind memo cards workers rounds_done v shared b s w bound =
+    let least = least_word kind v.view s w b.made (all_settled kind memo cards workers rounds_done v shared b s) bound in
     let G : JoinQuery → Type 0 = λ x. IsLeastWord kind x v.view.pairs s w in
     let H : List Pair → Type 0 = λ x. IsLeastWord kind memo.query x s w in
     subst H b.seat.pairs (subst G b.seat.query least)

@@ -33,14 +33,14 @@ groups_more n xs =
     one false = refl
 
 -- a group that has a pair is a round more, and one that has none isn't
-pub turned_some : (n turns : ℕ) (xs : List Pair) → 1 ≤ length (group_of n xs) → turns + 1 + length (groups_below n xs) ≡ turns + length (groups_below (n + 1) xs)
-turned_some n turns xs some = let e = groups_more n xs in let o = one (length (group_of n xs)) some in omega arith
+pub counted_some : (n rounds_done : ℕ) (xs : List Pair) → 1 ≤ length (group_of n xs) → rounds_done + 1 + length (groups_below n xs) ≡ rounds_done + length (groups_below (n + 1) xs)
+counted_some n rounds_done xs some = let e = groups_more n xs in let o = one (length (group_of n xs)) some in omega arith
   where
     one : (k : ℕ) → 1 ≤ k → cond (nat_lt 0 k) 1 0 + 0 ≡ 1
     one k some = grind (arith, nat_tests)
 
-pub turned_none : (n turns : ℕ) (xs : List Pair) → length (group_of n xs) ≡ 0 → turns + length (groups_below n xs) ≡ turns + length (groups_below (n + 1) xs)
-turned_none n turns xs none = let e = groups_more n xs in let o = one (length (group_of n xs)) none in omega arith
+pub counted_none : (n rounds_done : ℕ) (xs : List Pair) → length (group_of n xs) ≡ 0 → rounds_done + length (groups_below n xs) ≡ rounds_done + length (groups_below (n + 1) xs)
+counted_none n rounds_done xs none = let e = groups_more n xs in let o = one (length (group_of n xs)) none in omega arith
   where
     one : (k : ℕ) → k ≡ 0 → cond (nat_lt 0 k) 1 0 + 0 ≡ 0
     one k none = grind (arith, nat_tests)

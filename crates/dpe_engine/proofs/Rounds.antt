@@ -8,7 +8,7 @@ use Rattle.memo_table.specs.declared.view.View.{View}
 use Rattle.memo_table.specs.Seats.{MemoTable, SeatView, BoundsAreMade}
 use Rattle.memo_table.specs.Views.{times, EachOnceBelow, with_floor}
 use Rattle.dpe_engine.specs.Working.{past, IsDone}
-use Rattle.dpe_engine.specs.Rounds.{IsWorkerSeat, IsSplit, IsGathered, HaveWorked, MayTurn, HasTurned}
+use Rattle.dpe_engine.specs.Rounds.{IsWorkerSeat, IsSplit, IsGathered, HaveWorked, MayWorkRound, HasWorkedRound}
 use Rattle.dpe_engine.proofs.Tickets.{past_is, once_in, once_out, sum_fixed, sum_both, some_positive}
 use Rattle.dpe_engine.proofs.Bursts.{more_done}
 
@@ -17,11 +17,11 @@ same_done kind q q' l l' bs p e f d =
     let F : JoinQuery → Type 0 = λ x. IsDone kind x l' bs p in let G : List Pair → Type 0 = λ x. IsDone kind q x bs p in subst F e (subst G f d)
 
 -- a look at the counter leaves all that a round asks
-pub may_still : (kind : ℕ) (memo : MemoTable) (workers : ℕ) (group : List Pair) (s t : SeatView) → MayTurn kind memo workers group s → t.table ≡ s.table → {n : ℕ} → t.view ≡ with_floor s.view n → MayTurn kind memo workers group t
+pub may_still : (kind : ℕ) (memo : MemoTable) (workers : ℕ) (group : List Pair) (s t : SeatView) → MayWorkRound kind memo workers group s → t.table ≡ s.table → {n : ℕ} → t.view ≡ with_floor s.view n → MayWorkRound kind memo workers group t
 may_still kind memo workers group s t m table {n} view =
-    let F : View → Type 0 = λ v. MayTurn kind memo workers group record { table = s.table; view = v } in
-    let G : _ → Type 0 = λ x. MayTurn kind memo workers group record { table = x; view = t.view } in
-    let looked_at : MayTurn kind memo workers group record { table = s.table; view = with_floor s.view n } =
+    let F : View → Type 0 = λ v. MayWorkRound kind memo workers group record { table = s.table; view = v } in
+    let G : _ → Type 0 = λ x. MayWorkRound kind memo workers group record { table = x; view = t.view } in
+    let looked_at : MayWorkRound kind memo workers group record { table = s.table; view = with_floor s.view n } =
     record {
       some = m.some;
       few = m.few;
@@ -100,9 +100,9 @@ module _ (kind : ℕ) (memo : MemoTable) (base workers : ℕ) (group : List Pair
         (λ u has. g.taken u (record { seat = get_or crew' j split; member = Contains-get_or crew' j split found.1; bound = has }))
         (same_done kind (get_or crew j split).view.query memo.query (get_or crew j split).view.pairs memo.pairs (get_or crew' j split).view.bounds (get_or group k d) p.1.seat.query p.1.seat.pairs done)
 
-    pub turned : (last : SeatView) (n : ℕ) → first.view.weight ≡ WEIGHT → (gathered.view.weight ≡ WEIGHT → EachOnceBelow n gathered.view.tickets) → last.table ≡ gathered.table → last.view ≡ with_floor gathered.view n
-        → (before : SeatView) → EachOnceBelow base before.view.tickets → BoundsAreMade kind last.view → first.view.allowance ≡ before.view.allowance → ((b : ℕ × ℕ) → Contains before.view.bounds b → Contains first.view.bounds b) → HasTurned kind memo base workers group before last
-    turned last n heavy tells table view before began made same grow =
+    pub round_done : (last : SeatView) (n : ℕ) → first.view.weight ≡ WEIGHT → (gathered.view.weight ≡ WEIGHT → EachOnceBelow n gathered.view.tickets) → last.table ≡ gathered.table → last.view ≡ with_floor gathered.view n
+        → (before : SeatView) → EachOnceBelow base before.view.tickets → BoundsAreMade kind last.view → first.view.allowance ≡ before.view.allowance → ((b : ℕ × ℕ) → Contains before.view.bounds b → Contains first.view.bounds b) → HasWorkedRound kind memo base workers group before last
+    round_done last n heavy tells table view before began made same grow =
         let b = tells (whole ∙ heavy) in
         let e = ended n b in
         record {

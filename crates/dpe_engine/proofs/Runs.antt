@@ -75,8 +75,8 @@ begins kind memo cards workers buffer first first' second crew capacity s all le
       free = p.free;
     }
 
-module _ (kind : ℕ) (memo : MemoTable) (cards : RowTable) (workers room pairs buffers turns : ℕ) (left : List Pair) (ended : Bool) (full next : BufferedPairs) (crew : List SeatView) (capacity : ℕ) (s : SeatView)
-    (r : IsRunning kind memo cards workers room pairs buffers turns left ended full next crew capacity s) where
+module _ (kind : ℕ) (memo : MemoTable) (cards : RowTable) (workers room pairs buffers rounds_done : ℕ) (left : List Pair) (ended : Bool) (full next : BufferedPairs) (crew : List SeatView) (capacity : ℕ) (s : SeatView)
+    (r : IsRunning kind memo cards workers room pairs buffers rounds_done left ended full next crew capacity s) where
   more : take (pairs + length full.pairs) memo.pairs ≡ take pairs memo.pairs ++ full.pairs
   more = take_more pairs memo.pairs full.pairs left r.inside r.whole
 
@@ -87,12 +87,12 @@ module _ (kind : ℕ) (memo : MemoTable) (cards : RowTable) (workers room pairs 
       let c = length-append full.pairs left in
       let d = length-take-le pairs memo.pairs r.inside in omega arith
 
-  module _ (turns' : ℕ) (full' : BufferedPairs) (crew' : List SeatView) (capacity' : ℕ) (s' : SeatView) (w : HasWorkedBuffer kind memo workers pairs turns turns' full full' crew' capacity' s') where
-    worked : IsBetween kind memo workers (take (pairs + length full.pairs) memo.pairs) turns' s'
-    worked = let F : List Pair → Type 0 = λ l. IsBetween kind memo workers l turns' s' in subst F (sym more) w.between
+  module _ (rounds_done' : ℕ) (full' : BufferedPairs) (crew' : List SeatView) (capacity' : ℕ) (s' : SeatView) (w : HasWorkedBuffer kind memo workers pairs rounds_done rounds_done' full full' crew' capacity' s') where
+    worked : IsBetween kind memo workers (take (pairs + length full.pairs) memo.pairs) rounds_done' s'
+    worked = let F : List Pair → Type 0 = λ l. IsBetween kind memo workers l rounds_done' s' in subst F (sym more) w.between
 
     pub goes_on : (left' : List Pair) (ended' : Bool) (next' : BufferedPairs) → length full.pairs ≡ room → IsFilled left left' ended' next next'
-        → IsRunning kind memo cards workers room (pairs + length full.pairs) (buffers + 1) turns' left' ended' next' full' crew' capacity' s'
+        → IsRunning kind memo cards workers room (pairs + length full.pairs) (buffers + 1) rounds_done' left' ended' next' full' crew' capacity' s'
     goes_on left' ended' next' whole f =
         let some = r.rooms.2 in
         let first = first_run room full.pairs left some (omega arith) r.fits (λ h. absurd (omega arith)) in
@@ -111,7 +111,7 @@ module _ (kind : ℕ) (memo : MemoTable) (cards : RowTable) (workers room pairs 
               let a = r.rounds_left in
               let b = first_rounds room full.pairs left first in
               let c = ap (λ (l : List Pair). rounds room l) f.taken in
-              let d = w.turned in omega arith;
+              let d = w.counted in omega arith;
           few = let a = r.few in omega arith;
           rooms = (f.kept ∙ r.rooms.1, w.kept ∙ r.rooms.0, some);
           fits = let a = f.fits in let b = f.kept ∙ r.rooms.1 in omega arith;
@@ -127,7 +127,7 @@ module _ (kind : ℕ) (memo : MemoTable) (cards : RowTable) (workers room pairs 
 
     -- the last buffer, which is not full
     pub ends : length full.pairs < room → (buffers' : ℕ) → (length full.pairs ≡ 0 → buffers' ≡ buffers) → (1 ≤ length full.pairs → buffers' ≡ buffers + 1)
-        → HasEnded kind memo cards workers room (pairs + length full.pairs) buffers' turns' left ended s'
+        → HasEnded kind memo cards workers room (pairs + length full.pairs) buffers' rounds_done' left ended s'
     ends short buffers' none some =
         let l = r.last short in
         let nothing : length left ≡ 0 = ap (λ (t : List Pair). length t) l.0 in
@@ -139,7 +139,7 @@ module _ (kind : ℕ) (memo : MemoTable) (cards : RowTable) (workers room pairs 
         let no_round : rounds room [] ≡ 0 = ap (λ (t : List (List Pair)). sum_by (λ run. length (groups run)) t) over in
         record {
           shared = r.shared;
-          between = let F : List Pair → Type 0 = λ t. IsBetween kind memo workers t turns' s' in subst F (ap (λ (k : ℕ). take k memo.pairs) all ∙ take_all (length memo.pairs) memo.pairs (omega arith)) worked;
+          between = let F : List Pair → Type 0 = λ t. IsBetween kind memo workers t rounds_done' s' in subst F (ap (λ (k : ℕ). take k memo.pairs) all ∙ take_all (length memo.pairs) memo.pairs (omega arith)) worked;
           all_pairs = all;
           all_buffers =
               let a = r.buffers_left in
@@ -150,7 +150,7 @@ module _ (kind : ℕ) (memo : MemoTable) (cards : RowTable) (workers room pairs 
           all_rounds =
               let a = r.rounds_left in
               let b = ap (λ (t : List Pair). rounds room t) whole in
-              let d = w.turned in
+              let d = w.counted in
               by_size full.pairs
               (λ e. let c = ap (λ (t : List Pair). rounds room (t ++ [])) e in let m = ap (λ (t : List Pair). length (groups t)) e in let n = no_groups in omega arith)
               (λ h. let c = first_rounds room full.pairs [] (alone h) in omega arith);

@@ -6,7 +6,7 @@ use Rattle.memo_table.specs.declared.view.View.{View}
 use Rattle.memo_table.specs.Seats.{MemoTable, SeatView, IsSeatOf}
 use Rattle.memo_table.specs.Views.{kept_part, given_part}
 use Rattle.dpe_engine.specs.Working.{AreWorkable, IsReady}
-use Rattle.dpe_engine.specs.Rounds.{AreReady, IsWorkerSeat, IsSplit, MayTurn}
+use Rattle.dpe_engine.specs.Rounds.{AreReady, IsWorkerSeat, IsSplit, MayWorkRound}
 use Rattle.dpe_engine.proofs.PairSteps.{stays_settled}
 
 pub split_begins : (memo : MemoTable) (before : SeatView) (draws : ℕ) → IsSeatOf memo before → IsSplit memo before before [] 0 draws
@@ -60,7 +60,7 @@ stay_workable kind group s t query pairs grow w =
     }
 
 -- the crew is ready
-pub crew_ready : (kind : ℕ) (memo : MemoTable) (base workers : ℕ) (group : List Pair) (first split : SeatView) (crew : List SeatView) → MayTurn kind memo workers group first → first.view.floor ≡ base
+pub crew_ready : (kind : ℕ) (memo : MemoTable) (base workers : ℕ) (group : List Pair) (first split : SeatView) (crew : List SeatView) → MayWorkRound kind memo workers group first → first.view.floor ≡ base
     → IsSplit memo first split crew workers (length group + 1) → AreReady kind memo base group crew
 crew_ready kind memo base workers group first split crew m floor s = All-weaker (IsWorkerSeat memo first (length group + 1)) (IsReady kind memo base group) one crew s.each
   where

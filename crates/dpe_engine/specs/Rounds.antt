@@ -7,7 +7,7 @@ use Rattle.memo_table.specs.Views.{times, EachOnceBelow}
 use Rattle.dpe_engine.specs.Working.{past, IsDone, AreWorkable, IsReady, HasWorked}
 
 -- what a round asks of the main seat
-pub record MayTurn (kind : ℕ) (memo : MemoTable) (workers : ℕ) (group : List Pair) (s : SeatView) : Type 0 where
+pub record MayWorkRound (kind : ℕ) (memo : MemoTable) (workers : ℕ) (group : List Pair) (s : SeatView) : Type 0 where
   pub some : 1 ≤ workers
   pub few : workers ≤ 64
   pub seat : IsSeatOf memo s
@@ -16,7 +16,7 @@ pub record MayTurn (kind : ℕ) (memo : MemoTable) (workers : ℕ) (group : List
   pub workable : AreWorkable kind group s
 
 -- The tickets are the numbers below the base, the pairs and the workers, each once, and each pair is done
-pub record HasTurned (kind : ℕ) (memo : MemoTable) (base workers : ℕ) (group : List Pair) (before after : SeatView) : Type 0 where
+pub record HasWorkedRound (kind : ℕ) (memo : MemoTable) (base workers : ℕ) (group : List Pair) (before after : SeatView) : Type 0 where
   pub seat : IsSeatOf memo after
   pub weight : after.view.weight ≡ WEIGHT
   pub began : EachOnceBelow base before.view.tickets

@@ -10,11 +10,11 @@ mod shared;
 mod steps;
 #[cfg(test)]
 mod tests;
-mod turn;
+mod whole_round;
 mod worker;
 
 pub use engine::{Engine, Solved};
 pub use gate::{Gate, OpenGate};
 pub use memo_table::Words;
-pub use turn::round;
-pub use worker::{BURST, work};
+pub use whole_round::round;
+pub use worker::work;

@@ -35,8 +35,8 @@ fn work_pair<M: CostModel>(
     memo.offer(seat, union, word);
 }
 
-/// How many tickets a worker draws before it works their pairs.
-pub const BURST: usize = 16;
+// How many tickets a worker draws before it works their pairs.
+const BURST: usize = 16;
 
 /// Draws tickets until one is past the pairs, and works the pair of each other one. The pair at place k has the ticket
 /// `base` + k. The gate is told of each draw, right after it.

@@ -7,7 +7,8 @@ use Rattle.dpe_base.specs.Sets.{Has, Within, Disjoint, member, union, inter, min
 use Rattle.dpe_base.proofs.SetLaws.{sets, same_set, member-same, union_left, union_right, union_cases, full_has, inter_right, minus_has, minus_left, minus_right, within_same}
 use Rattle.dpe_base.proofs.NextSubset.{within_le}
 use Rattle.dpe_base.proofs.SizeLaws.{size-union, size_none}
-use Rattle.join_graph.specs.Graphs.{JoinGraph, IsGraph, Edge, Crossed, Connected, IsFrontier}
+use Rattle.join_graph.specs.Graphs.{JoinGraph, IsGraph, Edge, Crossed, Connected}
+use Rattle.join_graph.specs.Growth.{IsFrontier}
 use Rattle.join_graph.proofs.Growth.{connected_more}
 use Rattle.pair_stream.specs.Subsets.{subsets}
 use Rattle.pair_stream.specs.Connectivity.{neighbours}

@@ -46,11 +46,6 @@ Crossed g a b = (r : ℕ) × (s : ℕ) × Edge g r s × ((Has a r × Has b s) �
 abbrev pub IsNeighbours : JoinGraph → ℕ → ℕ → Type 0
 IsNeighbours g s t = (r : ℕ) → Has t r ↔ ((Has s r → ⊥) × ((k : ℕ) × Has s k × Edge g k r))
 
--- t has the relations of s outside the part that an edge joins to one in the part
-abbrev pub IsFrontier : JoinGraph → ℕ → ℕ → ℕ → Type 0
-IsFrontier g part s t =
-    (r : ℕ) → Has t r ↔ (Has s r × (Has part r → ⊥) × ((k : ℕ) × Has part k × Edge g k r))
-
 -- s is not empty, and an edge crosses each split of s into two parts that are not empty
 pub record Connected (g : JoinGraph) (s : ℕ) : Type 0 where
   pub some : s ≢ 0
@@ -78,11 +73,3 @@ pub record IsFirstUnreached (g : JoinGraph) (r : ℕ) : Type 0 where
   pub known : r < g.n
   pub unreached : Reached g 0 r → ⊥
   pub reached : (k : ℕ) → k < r → Reached g 0 k
-
--- the part is connected, has the first relation, is reached from it, and no edge leads on inside s
-pub record IsGrown (g : JoinGraph) (first s part : ℕ) : Type 0 where
-  pub connected : Connected g part
-  pub within : Within part s
-  pub has : Has part first
-  pub reached : (r : ℕ) → Has part r → Reached g first r
-  pub closed : IsFrontier g part s 0

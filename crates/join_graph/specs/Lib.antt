@@ -1,3 +1,4 @@
 pub mod Graphs
 pub mod Laws
 pub mod PairLists
+pub mod Growth

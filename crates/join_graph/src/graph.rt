@@ -1,6 +1,7 @@
 ghost use Rattle.std.specs.Prelude.{◌≡◌, ℕ, ◌<◌, ◌↔◌, IsTrue, IsNone, IfSome, All};
 ghost use Rattle.dpe_base.specs.Sets.{Has, Within, full, union};
-ghost use Rattle.join_graph.specs.Graphs.{JoinGraph, graph_of, Crossed, Connected, Edge, other_end, adjacent_to, adjacency, IsNeighbours, IsFrontier, IsGrown, IsFirstUnreached, IsGraph};
+ghost use Rattle.join_graph.specs.Graphs.{JoinGraph, graph_of, Crossed, Connected, Edge, other_end, adjacent_to, adjacency, IsNeighbours, IsFirstUnreached, IsGraph};
+ghost use Rattle.join_graph.specs.Growth.{IsFrontier, IsGrown};
 
 use dpe_base::{N_MAX, Pred, Query, RelSet};
 use std::marker::Model;

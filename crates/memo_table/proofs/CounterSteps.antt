@@ -36,7 +36,7 @@ module _ (kind : ℕ) (space : TreeSpace) where
         query = live.query;
         pairs = live.pairs;
         floor = let f = live.floor in omega arith;
-        bounds = λ b has. let g = live.bounds b has in record { some = g.some; within = g.within; made = g.made; reached = let d = word_beside s.words m b.0 in let r = g.reached in omega arith };
+        bounds = λ b has. let g = live.bounds b has in record { is = g.is; reached = let d = word_beside s.words m b.0 in let r = g.reached in omega arith };
       } in (
         w,
         keeps,

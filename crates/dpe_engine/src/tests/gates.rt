@@ -29,7 +29,7 @@ impl Meeting {
         if own.swap(true, Ordering::SeqCst) {
             return;
         }
-        'turns: for _ in 0..TURNS {
+        'rounds_done: for _ in 0..TURNS {
             if other.load(Ordering::SeqCst) {
                 return;
             }

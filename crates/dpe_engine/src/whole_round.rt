@@ -1,7 +1,7 @@
 //! One round of all workers over a group of pairs.
 ghost use Rattle.std.specs.Prelude.{◌≡◌, ◌≤◌, [], vec_capacity};
 ghost use Rattle.dpe_engine.specs.Working.{IsMemoOfQuery};
-ghost use Rattle.dpe_engine.specs.Rounds.{MayTurn, HasTurned};
+ghost use Rattle.dpe_engine.specs.Rounds.{MayWorkRound, HasWorkedRound};
 
 use crate::crew::{gather, split_off, work_each};
 use crate::gate::Gate;
@@ -22,7 +22,7 @@ pub(crate) fn threads_for(workers: u32, pairs: usize) -> usize
     if pairs >= WIDE { workers as usize } else { 1 }
 }
 
-// The same in so many threads.
+// `round`, in so many threads.
 pub(crate) fn round_in<M: CostModel, G: Gate, R: Threads + Sync>(
     rt: &R,
     memo: &Memo<M>,
@@ -37,10 +37,10 @@ pub(crate) fn round_in<M: CostModel, G: Gate, R: Threads + Sync>(
 ) -> u64
     requires threads { 1 ≤ threads }
     requires planned { IsMemoOfQuery memo.now cards.now }
-    requires may { MayTurn M.KIND memo.now workers pairs.now seat.old }
+    requires may { MayWorkRound M.KIND memo.now workers pairs.now seat.old }
     requires empty { crew.old.items ≡ [] }
     requires room { workers ≤ vec_capacity crew.old }
-    ensures turned { HasTurned M.KIND memo.now result workers pairs.now seat.old seat.new }
+    ensures worked { HasWorkedRound M.KIND memo.now result workers pairs.now seat.old seat.new }
     ensures empty { crew.new.items ≡ [] }
     ensures room { vec_capacity crew.new ≡ vec_capacity crew.old }
 {
@@ -79,10 +79,10 @@ pub fn round<M: CostModel, G: Gate, R: Threads + Sync>(
     crew: &mut Vec<MemoSeat<M>>,
 ) -> u64
     requires planned { IsMemoOfQuery memo.now cards.now }
-    requires may { MayTurn M.KIND memo.now workers pairs.now seat.old }
+    requires may { MayWorkRound M.KIND memo.now workers pairs.now seat.old }
     requires empty { crew.old.items ≡ [] }
     requires room { workers ≤ vec_capacity crew.old }
-    ensures turned { HasTurned M.KIND memo.now result workers pairs.now seat.old seat.new }
+    ensures worked { HasWorkedRound M.KIND memo.now result workers pairs.now seat.old seat.new }
     ensures empty { crew.new.items ≡ [] }
     ensures room { vec_capacity crew.new ≡ vec_capacity crew.old }
 {
