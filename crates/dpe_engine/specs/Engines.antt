@@ -1,8 +1,8 @@
 -- What contracts see of an engine, and of the words that it leaves.
-use Rattle.std.specs.Prelude.{◌≡◌, ℕ, List}
+use Rattle.std.specs.Prelude.{◌≡◌, ℕ, ◌^◌, ◌<◌, List, slice_index_or}
 use Rattle.dpe_base.specs.declared.TheConstants.{EMPTY}
 use Rattle.dpe_base.specs.declared.pair.Pair.{Pair}
-use Rattle.dpe_base.specs.Queries.{JoinQuery}
+use Rattle.dpe_base.specs.Queries.{JoinQuery, relations}
 use Rattle.join_tree.specs.Trees.{Made, Least}
 
 -- the query, the pairs that will be worked, how many of them a buffer holds, and how many workers there are
@@ -16,3 +16,8 @@ pub record EnginePlan : Type 0 where
 pub record IsLeastWord (kind : ℕ) (q : JoinQuery) (pairs : List Pair) (s w : ℕ) : Type 0 where
   pub least : (v : ℕ) → Made kind q pairs s v → Least kind q pairs s w
   pub none : ((v : ℕ) → Made kind q pairs s v → ⊥) → w ≡ EMPTY
+
+-- each word of the row is the least of its set, or EMPTY
+abbrev pub AreLeastWords : ℕ → JoinQuery → List Pair → List ℕ → Type 0
+AreLeastWords kind q pairs row =
+    (s : ℕ) → s < 2 ^ relations q → IsLeastWord kind q pairs s (slice_index_or row s 0)

@@ -1,11 +1,11 @@
 //! A whole run: all pairs of a stream are worked, buffer by buffer.
-ghost use Rattle.std.specs.Prelude.{◌≡◌, ◌+◌, ◌*◌, ◌<◌, ◌≤◌, ◌^◌, ◌⊎◌, ℕ, IsTrue, IfOk, Contains, length, vec_capacity, slice_index_or};
+ghost use Rattle.std.specs.Prelude.{◌≡◌, ◌+◌, ◌*◌, ◌<◌, ◌≤◌, ◌^◌, ◌⊎◌, ℕ, IsTrue, IfOk, Contains, length, vec_capacity};
 ghost use Rattle.dpe_base.specs.declared.pair.Pair.{Pair};
 ghost use Rattle.dpe_base.specs.Queries.{relations};
 ghost use Rattle.join_graph.specs.Graphs.{Pairs, graph_of};
 ghost use Rattle.pair_stream.specs.Orders.{Ordered};
 ghost use Rattle.reorder_buffer.specs.Groups.{runs, rounds};
-ghost use Rattle.dpe_engine.specs.Engines.{EnginePlan, IsLeastWord};
+ghost use Rattle.dpe_engine.specs.Engines.{AreLeastWords, EnginePlan};
 ghost use Rattle.dpe_engine.specs.Between.{IsRunning, HasEnded};
 
 use crate::gate::Gate;
@@ -194,7 +194,7 @@ impl<M: CostModel> Engine<M> {
     /// While a full buffer is worked the next one is filled in a thread of its own; but one worker would only wait for the
     /// thread to start, so it is filled before that work in the calling thread. After a fill that took less than a buffer
     /// holds none follows. The workers of a round go in threads of their own where the group is large enough to pay for
-    /// them, or is the first of a run that fills a buffer which isn't narrow, and else one after the other in the calling
+    /// them, or is the first of a run that fills a buffer of 32 pairs or more, and else one after the other in the calling
     /// thread.
     ///
     /// The gate is told of each buffer before it is filled, and of each draw. It takes no memory.
@@ -206,7 +206,7 @@ impl<M: CostModel> Engine<M> {
     ) -> (Solved, P)
         requires named { P.left stream ≡ self.pairs }
         ensures size { length result.0.words.row ≡ 2 ^ relations self.query }
-        ensures words { (s : ℕ) → s < 2 ^ relations self.query → IsLeastWord M.KIND self.query self.pairs s (slice_index_or result.0.words.row s 0) }
+        ensures words { AreLeastWords M.KIND self.query self.pairs result.0.words.row }
         ensures pairs { result.0.pairs ≡ length self.pairs }
         ensures drawn { result.0.words.drawn ≡ result.0.pairs + self.workers * result.0.rounds }
         ensures buffers { result.0.buffers ≡ length (runs self.buffer self.pairs) }
