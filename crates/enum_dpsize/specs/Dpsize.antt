@@ -24,16 +24,16 @@ abbrev pub pairs_after : JoinGraph → List ℕ → List Pair
 pairs_after g [] = []
 pairs_after g (x ∷ xs) = pairs_with g xs x ++ pairs_after g xs
 
--- the pairs of a side of k relations and one of l
-unfoldable pub pairs_sized : JoinGraph → ℕ → ℕ → List Pair
-pairs_sized g k l = if k == l then pairs_after g (part g k) else flat_map (pairs_with g (part g l)) (part g k)
-
-unfoldable pub seq_dpsize : JoinGraph → List Pair
-seq_dpsize g = flat_map (λ s. flat_map (λ k. pairs_sized g k (s - k)) (range_with_len 1 (s / 2))) (range_with_len 2 (g.n - 1))
-
 -- the pairs of the first sets xs with the second sets ys, or with the later ones of the same list
 abbrev pub row_pairs : JoinGraph → List ℕ → Bool → List ℕ → List Pair
 row_pairs g ys same xs = if same then pairs_after g xs else flat_map (pairs_with g ys) xs
+
+-- the pairs of a side of k relations and one of l
+unfoldable pub pairs_sized : JoinGraph → ℕ → ℕ → List Pair
+pairs_sized g k l = row_pairs g (part g l) (k == l) (part g k)
+
+unfoldable pub seq_dpsize : JoinGraph → List Pair
+seq_dpsize g = flat_map (λ s. flat_map (λ k. pairs_sized g k (s - k)) (range_with_len 1 (s / 2))) (range_with_len 2 (g.n - 1))
 
 -- where a row begins: at the place after its own set, or at the first
 abbrev pub start_at : Bool → ℕ → ℕ
