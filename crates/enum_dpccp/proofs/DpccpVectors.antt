@@ -2,10 +2,10 @@
 use Rattle.std.proofs.Common.{◌≡◌, refl, [], ◌∷◌}
 use Rattle.std.specs.Prelude.{length}
 use Rattle.std.specs.Int.Count.{count_trailing_zeros}
-use Rattle.dpe_base.specs.Sets.{member, union, inter, minus, single, full}
+use Rattle.dpe_base.specs.Sets.{member, union, inter, minus, single, full, least}
 use Rattle.join_graph.proofs.Samples.{edge, graph}
 use Rattle.join_graph.specs.Graphs.{pair_of, adjacency, adjacent_to, other_end}
-use Rattle.pair_stream.specs.Subsets.{least, subsets_after, descending}
+use Rattle.pair_stream.specs.Subsets.{subsets_after, descending}
 use Rattle.pair_stream.specs.Connectivity.{adjacent_if_member, adjacent_to_members, neighbours}
 use Rattle.enum_dpccp.specs.Dpccp.{extensions, grown_from, first_sides_below, first_sides, second_sides_from, second_sides, seq_dpccp}
 

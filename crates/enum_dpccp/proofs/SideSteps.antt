@@ -8,11 +8,11 @@ use Rattle.std.proofs.lemmas.Bool.{cases_eq, cases_lt, cond-true, cond-false, eq
 use Rattle.std.proofs.lemmas.Nat.{leading_top, div-add-mod'}
 use Rattle.std.proofs.lemmas.Nat.Bits.{bit_at_above}
 use Rattle.dpe_base.specs.declared.TheConstants.{N_MAX}
-use Rattle.dpe_base.specs.Sets.{Has, Within, IsLeast, member, union, inter, minus, single, full}
+use Rattle.dpe_base.specs.Sets.{Has, Within, IsLeast, member, union, inter, minus, single, full, least}
 use Rattle.dpe_base.proofs.SetLaws.{sets, same_set, empty_has, has_some, single_has, single_one, full_has, full_limit, union_right, minus_left, minus_right}
 use Rattle.join_graph.specs.Graphs.{JoinGraph, IsGraph, Connected}
 use Rattle.join_graph.proofs.GraphLaws.{known_relation}
-use Rattle.pair_stream.specs.Subsets.{least, descending}
+use Rattle.pair_stream.specs.Subsets.{descending}
 use Rattle.dpe_base.proofs.Members.{contains_head, contains_tail, contains_none}
 use Rattle.pair_stream.proofs.Lists.{passes_from_filter}
 use Rattle.pair_stream.proofs.SubsetLaws.{descending_has}

@@ -2,9 +2,9 @@
 use Rattle.std.specs.Prelude.{ℕ, zero, suc, ◌==◌, List, [], ◌∷◌, ◌++◌, map}
 use Rattle.std.specs.List.{filter, flat_map}
 use Rattle.dpe_base.specs.declared.pair.Pair.{Pair}
-use Rattle.dpe_base.specs.Sets.{member, union, inter, minus, single, full}
+use Rattle.dpe_base.specs.Sets.{member, union, inter, minus, single, full, least}
 use Rattle.join_graph.specs.Graphs.{JoinGraph, pair_of}
-use Rattle.pair_stream.specs.Subsets.{subsets, least, descending}
+use Rattle.pair_stream.specs.Subsets.{subsets, descending}
 use Rattle.pair_stream.specs.Connectivity.{neighbours}
 
 -- the neighbours of s that are not in x

@@ -5,7 +5,7 @@ use Rattle.dpe_base.specs.declared.pair.Pair.{Pair}
 use Rattle.join_graph.specs.Graphs.{JoinGraph, IsGraph, pair_of}
 use Rattle.pair_stream.specs.Parts.{part, parts_of}
 use Rattle.pair_stream.specs.Connectivity.{adjacent_to_members}
-use Rattle.pair_stream.specs.Subsets.{meets, least}
+use Rattle.dpe_base.specs.Sets.{meets, least}
 
 -- x and y are disjoint, and a predicate joins them
 unfoldable pub is_joinable : JoinGraph → ℕ → ℕ → Bool

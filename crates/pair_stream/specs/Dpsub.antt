@@ -2,9 +2,9 @@
 use Rattle.std.specs.Prelude.{ℕ, suc, ◌-◌, Bool, ◌&&◌, ◌==◌, List, [], ◌++◌, map, if◌then◌else◌}
 use Rattle.std.specs.List.{range_with_len, filter, flat_map}
 use Rattle.dpe_base.specs.declared.pair.Pair.{Pair}
-use Rattle.dpe_base.specs.Sets.{member, minus, full}
+use Rattle.dpe_base.specs.Sets.{member, minus, full, least}
 use Rattle.join_graph.specs.Graphs.{JoinGraph, pair_of}
-use Rattle.pair_stream.specs.Subsets.{least, subsets_after}
+use Rattle.pair_stream.specs.Subsets.{subsets_after}
 use Rattle.pair_stream.specs.Connectivity.{is_connected}
 
 -- a and the rest of s are a pair of connected sets, a with the least relation of s

@@ -1,8 +1,8 @@
 ghost use Rattle.std.specs.Prelude.{◌≡◌, refl, IfSome, List};
 ghost use Rattle.std.specs.Option.{IfNone};
 ghost use Rattle.dpe_base.specs.declared.pair.Pair.{Pair};
-ghost use Rattle.dpe_base.specs.Sets.{Has, Within, full};
-ghost use Rattle.pair_stream.specs.Subsets.{least, IsNextWithLeast};
+ghost use Rattle.dpe_base.specs.Sets.{Has, Within, full, least};
+ghost use Rattle.pair_stream.specs.Subsets.{IsNextWithLeast};
 ghost use Rattle.pair_stream.specs.Orders.{Ordered, Complete};
 ghost use Rattle.pair_stream.specs.Dpsub.{is_split, seq_dpsub};
 
