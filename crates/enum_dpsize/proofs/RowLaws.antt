@@ -10,7 +10,8 @@ use Rattle.join_graph.specs.Graphs.{JoinGraph, IsGraph, Edge, Crossed, Connected
 use Rattle.pair_stream.specs.Connectivity.{adjacent_to_members}
 use Rattle.dpe_base.proofs.SizeLaws.{meets_true}
 use Rattle.pair_stream.proofs.ConnectivityLaws.{joined_true, connected_least}
-use Rattle.enum_dpsize.specs.Dpsize.{is_joinable, pair_by_least, pairs_with, pairs_after, row_pairs, rows_from, start_at}
+use Rattle.enum_dpsize.specs.Dpsize.{is_joinable, pair_by_least, pairs_with, pairs_after, row_pairs, start_at}
+use Rattle.enum_dpsize.specs.DpsizeLeft.{rows_from}
 
 pub not_joinable : (g : JoinGraph) (x y : ℕ) → Meets x y → false ≡ is_joinable g x y
 unfolding is_joinable

@@ -12,7 +12,8 @@ use Rattle.join_graph.specs.Graphs.{JoinGraph, IsGraph, Connected, pair_of}
 use Rattle.pair_stream.specs.Subsets.{subsets_after, IsNextWithLeast}
 use Rattle.pair_stream.specs.Connectivity.{is_connected}
 use Rattle.pair_stream.specs.Orders.{Ordered, Complete}
-use Rattle.pair_stream.specs.Dpsub.{is_split, splits_of, seq_dpsub, dpsub_left}
+use Rattle.pair_stream.specs.Dpsub.{is_split, splits_of, seq_dpsub}
+use Rattle.pair_stream.specs.DpsubLeft.{dpsub_left}
 use Rattle.pair_stream.proofs.SubsetLaws.{subsets_skip, subsets_last, least_is}
 use Rattle.pair_stream.proofs.NextWithLeast.{next_with_least}
 use Rattle.pair_stream.proofs.ConnectivityLaws.{is_connected_true}
@@ -82,7 +83,7 @@ left_more g s l =
     step : suc s + 1 ≡ suc (suc s)
     step = omega arith
 
-one_on : (s t : ℕ) → t ≡ s + 1 → suc s ≡ t
+pub one_on : (s t : ℕ) → t ≡ s + 1 → suc s ≡ t
 one_on s t e = omega arith
 
 -- the next set is connected

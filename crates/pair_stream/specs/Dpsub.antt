@@ -1,5 +1,5 @@
 -- The pairs by ascending unions, then by ascending first sides.
-use Rattle.std.specs.Prelude.{ℕ, suc, ◌-◌, Bool, ◌&&◌, ◌==◌, List, [], ◌++◌, map, if◌then◌else◌}
+use Rattle.std.specs.Prelude.{ℕ, Bool, ◌&&◌, ◌==◌, List, [], map, if◌then◌else◌}
 use Rattle.std.specs.List.{range_with_len, filter, flat_map}
 use Rattle.dpe_base.specs.declared.pair.Pair.{Pair}
 use Rattle.dpe_base.specs.Sets.{member, minus, full, least}
@@ -17,9 +17,3 @@ splits_of g s = if is_connected g s then map (λ a. pair_of a (minus s a)) (filt
 
 unfoldable pub seq_dpsub : JoinGraph → List Pair
 seq_dpsub g = flat_map (splits_of g) (range_with_len 1 (full g.n))
-
--- the pairs after the first side a of the union s
-unfoldable pub dpsub_left : JoinGraph → ℕ → ℕ → List Pair
-dpsub_left g s a =
-    map (λ a. pair_of a (minus s a)) (filter (is_split g s) (subsets_after a s))
-    ++ flat_map (splits_of g) (range_with_len (suc s) (full g.n - s))

@@ -31,7 +31,7 @@ impl Model for DpSub {
     ghost use Rattle.dpe_base.specs.declared.pair.Pair.{Pair};
     ghost use Rattle.dpe_base.specs.Sets.{Within, full};
     ghost use Rattle.join_graph.specs.Graphs.{IsGraph};
-    ghost use Rattle.pair_stream.specs.Dpsub.{dpsub_left};
+    ghost use Rattle.pair_stream.specs.DpsubLeft.{dpsub_left};
 
     ghost Value = { List Pair };
 
