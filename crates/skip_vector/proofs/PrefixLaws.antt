@@ -6,8 +6,8 @@ use Rattle.std.proofs.lemmas.Bool.{cases_eq, cases_lt, ne_eqb}
 use Rattle.std.proofs.lemmas.List.{take-append-le}
 use Rattle.std.proofs.lemmas.Nat.{one_shl}
 use Rattle.dpe_base.specs.Sets.{member, Has, Meets, IsLeast, inter, full, size, alone, members, members_below}
-use Rattle.dpe_base.proofs.SetLaws.{member-bound, member-inter, least_by_zeros, inter_lt, meets_by_inter}
-use Rattle.dpe_base.proofs.SizeLaws.{counted, size_counts, meets_by_shared}
+use Rattle.dpe_base.proofs.SetLaws.{member-bound, member-inter, least_by_zeros, inter_lt}
+use Rattle.dpe_base.proofs.SizeLaws.{counted, size_counts, meets_by_inter}
 use Rattle.dpe_base.proofs.ListOrder.{alone-member, alone-other, split_at, between_first, between, between_cases, FirstIn, from_k, first_of, first_digit, same_below, same_by_xor}
 use Rattle.skip_vector.specs.Skips.{first_relations, up_to, blocking_prefix}
 
@@ -139,7 +139,7 @@ hasin_later x (r ∷ a) b h = inr (hasin_later x a b h)
 pub hasin_from : (s x : ℕ) → s < 2 ^ 32 → Meets s x → HasIn x (members s)
 unfolding HasIn
 hasin_from s x l m =
-    let ne : inter s x ≢ 0 = (meets_by_inter s x l).1 m in
+    let ne : inter s x ≢ 0 = (meets_by_inter s x).1 m in
     let k : ℕ = count_trailing_zeros 32 (inter s x) in
     let z : (k < 32) × IsLeast (inter s x) k = least_by_zeros (inter s x) (inter_lt s x (2 ^ 32) l) ne in
     let is : member s k ≡ 1 = omega (arith, z.1.0, member-inter s x k, member-bound s k, member-bound x k) in
@@ -181,9 +181,9 @@ up_to_few x (r ∷ rs) =
       | inr ne ↦ rw (ne_eqb (member x r) 1 ne) (omega (arith, up_to_few x rs))
     ]
 
-pub blocking_some : (s x : ℕ) → s < 2 ^ 32 → inter s x ≢ 0 → 1 ≤ length (blocking_prefix x s)
+pub blocking_some : (s x : ℕ) → s < 2 ^ 32 → Meets s x → 1 ≤ length (blocking_prefix x s)
 unfolding blocking_prefix
-blocking_some s x l ne = up_to_some x (members s) (hasin_from s x l (meets_by_shared s x ne))
+blocking_some s x l m = up_to_some x (members s) (hasin_from s x l m)
 
 pub blocking_few : (s x : ℕ) → s < 2 ^ 32 → length (blocking_prefix x s) ≤ size s
 unfolding blocking_prefix

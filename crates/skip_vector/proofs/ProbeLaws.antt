@@ -11,7 +11,7 @@ use Rattle.std.proofs.Math.ListN.{get_or-append}
 use Rattle.std.proofs.lemmas.List.{get_or_push}
 use Rattle.std.proofs.lemmas.Slice.Eq.{bytes_eq-Decides}
 use Rattle.dpe_base.proofs.SetLaws.{disjoint_by_inter}
-use Rattle.dpe_base.proofs.SizeLaws.{meets_by_shared, meets_true}
+use Rattle.dpe_base.proofs.SizeLaws.{meets_by_inter, meets_true}
 use Rattle.dpe_base.proofs.ListOrder.{order_same}
 use Rattle.skip_vector.proofs.PrefixLaws.{HasIn, hasin_meets, up_to_here, up_to_later}
 use Rattle.skip_vector.specs.Skips.{first_relations, up_to, blocking_prefix, is_free, IsPart, IsAfter, has_blocking_prefix, is_probed, probes, NoneFree, IsFirstFree, IsColumn, IsProbed}
@@ -111,7 +111,7 @@ probed_first part from x n h =
 
 pub free_or_meets : (s x : ℕ) → Disjoint s x ⊎ Meets s x
 free_or_meets s x =
-    elim (cases_eq (inter s x) 0) [ inl e ↦ inl ((disjoint_by_inter s x).0 e) | inr ne ↦ inr (meets_by_shared s x ne) ]
+    elim (cases_eq (inter s x) 0) [ inl e ↦ inl ((disjoint_by_inter s x).0 e) | inr ne ↦ inr ((meets_by_inter s x).0 ne) ]
 
 pub free_true : (s x : ℕ) → Disjoint s x → nat_eq (inter s x) 0 ≡ true
 free_true s x d = eq-eqb _ _ ((disjoint_by_inter s x).1 d)
