@@ -59,8 +59,8 @@ probed_same part from x n k ok small free l =
           | inr ge ↦
               let q : m ≡ n = omega arith in
               λ e.
-                  let m : Meets (slice_index part (from + n)) x = hasin_meets _ x (blocking_has _ _ x h (ap (λ j. blocking_prefix x (slice_index part (from + j))) (sym q) ∙ e)) in
-                  free m.0 m.1 m.2
+              let m : Meets (slice_index part (from + n)) x = hasin_meets _ x (blocking_has _ _ x h (ap (λ j. blocking_prefix x (slice_index part (from + j))) (sym q) ∙ e)) in
+              free m.0 m.1 m.2
         ]
 
 probes_join : (part : List ℕ) (from x n k : ℕ) → IsPart part → ((i : ℕ) → i < length part → slice_index part i < 2 ^ 32) → Disjoint (slice_index part (from + n)) x → from + suc n + k ≤ length part → probes part from x (suc n + k) ≡ probes part from x (suc n) + probes part (from + suc n) x k
