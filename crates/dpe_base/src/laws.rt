@@ -1,7 +1,7 @@
 //! What holds of sets of relations and of numbers.
-ghost use Rattle.std.specs.Prelude.{◌≡◌, ◌↔◌, ◌⊎◌, ◌<◌, ◌≤◌, ◌^◌, ℕ, suc, length};
+ghost use Rattle.std.specs.Prelude.{◌≡◌, ◌≢◌, ◌↔◌, ◌⊎◌, ◌<◌, ◌≤◌, ◌^◌, ℕ, suc, length};
 ghost use Rattle.dpe_base.specs.Digits.{digits};
-ghost use Rattle.dpe_base.specs.Sets.{Has, full, inter, members, minus, single, size, union};
+ghost use Rattle.dpe_base.specs.Sets.{Has, IsLeast, full, inter, least, members, minus, single, size, union};
 
 /// A set is told by its members, and each operation has the members that its name says.
 pub fn sets_are_their_members()
@@ -11,6 +11,11 @@ pub fn sets_are_their_members()
     ensures union { (a b r : ℕ) → Has (union a b) r ↔ (Has a r ⊎ Has b r) }
     ensures inter { (a b r : ℕ) → Has (inter a b) r ↔ (Has a r × Has b r) }
     ensures minus { (a b r : ℕ) → Has (minus a b) r ↔ (Has a r × (Has b r → ⊥)) }
+{}
+
+/// `least` is the least member of a set that has one.
+pub fn least_is_the_least_member()
+    ensures { (s : ℕ) → s < 2 ^ 32 → s ≢ 0 → IsLeast s (least s) }
 {}
 
 /// The size of a set is the length of the list of its members.

@@ -2,11 +2,10 @@
 use Rattle.std.proofs.Common.{◌≡◌, ◌≢◌, ℕ, suc, ◌≤◌, inl, inr, arith, sym, ap, subst, map}
 use Rattle.std.specs.List.{AllPairs, Contains}
 use Rattle.dpe_base.specs.declared.pair.Pair.{Pair}
-use Rattle.dpe_base.specs.Sets.{Has, Within, Disjoint, IsLeast, union, full}
+use Rattle.dpe_base.specs.Sets.{Has, Within, Disjoint, IsLeast, union, full, least}
 use Rattle.dpe_base.proofs.SetLaws.{full_has, full_limit, union_left, union_right, union_cases}
 use Rattle.dpe_base.proofs.SizeLaws.{union_some}
 use Rattle.join_graph.specs.Graphs.{JoinGraph, IsGraph, Connected, Pairs, pair_of}
-use Rattle.pair_stream.specs.Subsets.{least}
 use Rattle.pair_stream.specs.Orders.{Ordered, Complete}
 use Rattle.pair_stream.proofs.Lists.{contains_map, contains_from_map, contains_flat_map, contains_from_flat_map, pairs_map, pairs_flat_map}
 use Rattle.pair_stream.proofs.SubsetLaws.{least_is}

@@ -8,17 +8,17 @@ use Rattle.std.proofs.lemmas.Bool.{cases_eq, cases_lt, cond-true, cond-false, eq
 use Rattle.std.proofs.lemmas.Nat.{leading_top, div-add-mod'}
 use Rattle.std.proofs.lemmas.Nat.Bits.{bit_at_above}
 use Rattle.dpe_base.specs.declared.TheConstants.{N_MAX}
-use Rattle.dpe_base.specs.Sets.{Has, Within, IsLeast, member, union, inter, minus, single, full}
+use Rattle.dpe_base.specs.Sets.{Has, Within, IsLeast, member, union, inter, minus, single, full, least}
 use Rattle.dpe_base.proofs.SetLaws.{sets, same_set, empty_has, has_some, single_has, single_one, full_has, full_limit, union_right, minus_left, minus_right}
 use Rattle.join_graph.specs.Graphs.{JoinGraph, IsGraph, Connected}
 use Rattle.join_graph.proofs.GraphLaws.{known_relation}
-use Rattle.pair_stream.specs.Subsets.{least, descending}
+use Rattle.pair_stream.specs.Subsets.{descending}
 use Rattle.dpe_base.proofs.Members.{contains_head, contains_tail, contains_none}
 use Rattle.pair_stream.proofs.Lists.{passes_from_filter}
 use Rattle.pair_stream.proofs.SubsetLaws.{descending_has}
 use Rattle.pair_stream.proofs.ConnectivityLaws.{connected_least}
-use Rattle.enum_dpccp.specs.Dpccp.{grown_from, all_extensions, neighbours_outside, excluded, first_sides, second_sides}
-use Rattle.enum_dpccp.specs.Sides.{IsGreatest, first_sides_below, second_sides_from}
+use Rattle.enum_dpccp.specs.Dpccp.{grown_from, all_extensions, neighbours_outside, excluded, first_sides_below, first_sides, second_sides_from, second_sides}
+use Rattle.enum_dpccp.specs.Sides.{IsGreatest}
 use Rattle.enum_dpccp.proofs.Depth.{flat_map_agree, outside_in_graph}
 use Rattle.enum_dpccp.proofs.SideLaws.{first_has}
 
@@ -65,7 +65,7 @@ excluded_by g a r f u ok c l ef eu = eu ∙ ap (λ (k : ℕ). union k a) (ef ∙
 -- ---- first sides
 
 pub first_start : (g : JoinGraph) (grown : List ℕ) (n : ℕ) → grown ≡ [] → n ≡ g.n → grown ++ first_sides_below g n ≡ first_sides g
-unfolding first_sides first_sides_below
+unfolding first_sides
 first_start g grown n e en = ap (λ xs. xs ++ first_sides_below g n) e ∙ ap (first_sides_below g) en
 
 pub first_start_connected : (g : JoinGraph) (left : List ℕ) → IsGraph g → left ≡ first_sides g → (a : ℕ) → Contains left a → Connected g a
@@ -201,7 +201,7 @@ pub second_end : (g : JoinGraph) (grown : List ℕ) (x starts : ℕ) → grown �
 second_end g grown x starts e es = ap (λ xs. xs ++ second_sides_from g x starts) e ∙ ap (second_sides_from g x) es ∙ second_none g x
 
 pub second_start : (g : JoinGraph) (grown : List ℕ) (a x starts : ℕ) → grown ≡ [] → x ≡ excluded a → starts ≡ neighbours_outside g a x → grown ++ second_sides_from g x starts ≡ second_sides g a
-unfolding second_sides second_sides_from
+unfolding second_sides
 second_start g grown a x from e ex es =
     ap (λ xs. xs ++ second_sides_from g x from) e
     ∙ ap (second_sides_from g x) es

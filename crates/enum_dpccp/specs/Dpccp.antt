@@ -2,9 +2,9 @@
 use Rattle.std.specs.Prelude.{ℕ, zero, suc, ◌==◌, List, [], ◌∷◌, ◌++◌, map}
 use Rattle.std.specs.List.{filter, flat_map}
 use Rattle.dpe_base.specs.declared.pair.Pair.{Pair}
-use Rattle.dpe_base.specs.Sets.{member, union, inter, minus, single, full}
+use Rattle.dpe_base.specs.Sets.{member, union, inter, minus, single, full, least}
 use Rattle.join_graph.specs.Graphs.{JoinGraph, pair_of}
-use Rattle.pair_stream.specs.Subsets.{subsets, least, descending}
+use Rattle.pair_stream.specs.Subsets.{subsets, descending}
 use Rattle.pair_stream.specs.Connectivity.{neighbours}
 
 -- the neighbours of s that are not in x
@@ -27,9 +27,13 @@ all_extensions g s x = extensions g g.n s x
 unfoldable pub grown_from : JoinGraph → ℕ → ℕ → List ℕ
 grown_from g x i = single i ∷ all_extensions g (single i) x
 
+-- the first sides with a least relation below n
+unfoldable pub first_sides_below : JoinGraph → ℕ → List ℕ
+first_sides_below g n = flat_map (λ i. grown_from g (full (suc i)) i) (descending n)
+
 -- EnumerateCsg: every connected set
 unfoldable pub first_sides : JoinGraph → List ℕ
-first_sides g = flat_map (λ i. grown_from g (full (suc i)) i) (descending g.n)
+first_sides g = first_sides_below g g.n
 
 -- what no second side of a has: the relations up to the least of a, and a
 abbrev pub excluded : ℕ → ℕ
@@ -39,11 +43,15 @@ excluded a = union (full (suc (least a))) a
 abbrev pub starts : JoinGraph → ℕ → ℕ
 starts g a = neighbours_outside g a (excluded a)
 
--- EnumerateCmp: the second sides of a. One that starts with i has no smaller start.
+-- the second sides with these starts, where x is excluded. One that starts with i has no smaller start.
+unfoldable pub second_sides_from : JoinGraph → ℕ → ℕ → List ℕ
+second_sides_from g x from =
+    flat_map (λ i. grown_from g (union x (inter from (full (suc i)))) i)
+    (filter (λ i. member from i == 1) (descending g.n))
+
+-- EnumerateCmp: the second sides of a
 unfoldable pub second_sides : JoinGraph → ℕ → List ℕ
-second_sides g a =
-    flat_map (λ i. grown_from g (union (excluded a) (inter (starts g a) (full (suc i)))) i)
-    (filter (λ i. member (starts g a) i == 1) (descending g.n))
+second_sides g a = second_sides_from g (excluded a) (starts g a)
 
 unfoldable pub seq_dpccp : JoinGraph → List Pair
 seq_dpccp g = flat_map (λ a. map (pair_of a) (second_sides g a)) (first_sides g)

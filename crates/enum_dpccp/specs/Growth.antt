@@ -1,5 +1,5 @@
 -- What the calls of the recursion that are under way have still to give.
-use Rattle.std.specs.Prelude.{◌≡◌, ◌≢◌, ℕ, suc, ◌+◌, ◌≤◌, List, [], ◌∷◌, ◌++◌, map, length, Option, Some, None}
+use Rattle.std.specs.Prelude.{◌≡◌, ◌≢◌, ℕ, suc, ◌+◌, ◌≤◌, List, [], ◌∷◌, ◌++◌, map, length}
 use Rattle.std.specs.List.{flat_map}
 use Rattle.dpe_base.specs.Sets.{Within, union, minus, full, size}
 use Rattle.join_graph.specs.Graphs.{JoinGraph}
@@ -51,11 +51,6 @@ CallsFit g k (c ∷ cs) = CallFits g k c × CallsFit g (suc k) cs
 pub record GrowthFits (g : JoinGraph) (w : Growth) : Type 0 where
   pub calling : CallsFit g 0 w.calling.items
   pub giving : CallFits g (length w.calling.items) w.giving
-
--- the first set is taken, or there is none
-abbrev pub TakesSet : List ℕ → List ℕ → Option ℕ → Type 0
-TakesSet before now (Some s) = before ≡ s ∷ now
-TakesSet before now None = (before ≡ []) × (now ≡ [])
 
 -- the first call after the call's subset `last` that gives anything
 pub record IsChild (g : JoinGraph) (c : Call) (child : Child) : Type 0 where

@@ -1,8 +1,9 @@
 ghost use Rattle.std.specs.Prelude.{◌≡◌, ◌≢◌, ℕ, ◌++◌, [], length, IfSome};
 ghost use Rattle.std.specs.Option.{IfNone};
 ghost use Rattle.dpe_base.specs.Sets.{Within, full, union};
+ghost use Rattle.pair_stream.specs.Streams.{Takes};
 ghost use Rattle.enum_dpccp.specs.Dpccp.{neighbours_outside, all_extensions};
-ghost use Rattle.enum_dpccp.specs.Growth.{calls_after, calling_left, growth_left, GrowthFits, CallFits, CallsFit, TakesSet, IsChild, NoChild, spent_call};
+ghost use Rattle.enum_dpccp.specs.Growth.{calls_after, calling_left, growth_left, GrowthFits, CallFits, CallsFit, IsChild, NoChild, spent_call};
 
 use arrayvec::ArrayVec;
 use dpe_base::{N_MAX, RelSet};
@@ -196,7 +197,7 @@ impl Growth {
     #[inline]
     pub fn next(&mut self, graph: &Graph) -> Option<RelSet>
         requires { GrowthFits graph.now self.old }
-        ensures set { TakesSet (growth_left graph.now self.old) (growth_left graph.now self.new) result }
+        ensures set { Takes (growth_left graph.now self.old) (growth_left graph.now self.new) result }
         ensures fits { GrowthFits graph.now self.new }
         ensures empty { IfNone result (self.new.calling.items ≡ []) }
     {

@@ -1,8 +1,9 @@
 ghost use Rattle.std.specs.Prelude.{◌≡◌, [], IfSome, MatchOption};
 ghost use Rattle.std.specs.Option.{IfNone};
 ghost use Rattle.join_graph.specs.Graphs.{Connected};
+ghost use Rattle.pair_stream.specs.Streams.{Takes};
 ghost use Rattle.enum_dpccp.specs.Dpccp.{excluded, first_sides, second_sides};
-ghost use Rattle.enum_dpccp.specs.Growth.{growth_left, TakesSet};
+ghost use Rattle.enum_dpccp.specs.Growth.{growth_left};
 ghost use Rattle.enum_dpccp.specs.Sides.{IsGreatest, first_left, FirstFits, second_left, SecondFits};
 
 use crate::growth::{Growth, neighbours_outside};
@@ -67,7 +68,7 @@ impl FirstSides {
     /// The next first side.
     pub fn next(&mut self, graph: &Graph) -> Option<RelSet>
         requires { FirstFits graph.now self.old }
-        ensures set { TakesSet (first_left graph.now self.old) (first_left graph.now self.new) result }
+        ensures set { Takes (first_left graph.now self.old) (first_left graph.now self.new) result }
         ensures fits { FirstFits graph.now self.new }
         ensures connected { IfSome result (λ a. Connected graph.now a) }
     {
@@ -116,7 +117,7 @@ impl SecondSides {
     #[inline]
     pub fn next(&mut self, graph: &Graph) -> Option<RelSet>
         requires { SecondFits graph.now self.old }
-        ensures set { TakesSet (second_left graph.now self.old) (second_left graph.now self.new) result }
+        ensures set { Takes (second_left graph.now self.old) (second_left graph.now self.new) result }
         ensures fits { SecondFits graph.now self.new }
         ensures spent { IfNone result (growth_left graph.now self.new.growth ≡ []) }
     {
@@ -131,7 +132,7 @@ impl SecondSides {
         requires fits { SecondFits graph.now self.old }
         requires spent { growth_left graph.now self.old.growth ≡ [] }
         requires empty { self.old.growth.calling.items ≡ [] }
-        ensures set { TakesSet (second_left graph.now self.old) (second_left graph.now self.new) result }
+        ensures set { Takes (second_left graph.now self.old) (second_left graph.now self.new) result }
         ensures fits { SecondFits graph.now self.new }
         ensures spent { IfNone result (growth_left graph.now self.new.growth ≡ []) }
     {

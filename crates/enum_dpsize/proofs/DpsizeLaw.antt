@@ -5,17 +5,16 @@ use Rattle.std.proofs.lemmas.Bool.{cases_eq, cases_Bool, cases_lt, cond-true, co
 use Rattle.std.proofs.lemmas.List.Elements.{Contains-append_left, Contains-append_right, Contains-append_cases}
 use Rattle.std.proofs.lemmas.List.Kept.{AllPairs-filter}
 use Rattle.dpe_base.specs.declared.pair.Pair.{Pair}
-use Rattle.dpe_base.specs.Sets.{Has, Within, Disjoint, Meets, IsLeast, union, full, size}
+use Rattle.dpe_base.specs.Sets.{Has, Within, Disjoint, Meets, IsLeast, union, full, size, meets, least}
 use Rattle.dpe_base.proofs.SetLaws.{union_left, union_right, union_cases, union_comm}
-use Rattle.dpe_base.proofs.SizeLaws.{size-union, size_none, size_full, union_some, some_member}
+use Rattle.dpe_base.proofs.SizeLaws.{size-union, size_none, size_full, union_some, some_member, meets_true}
 use Rattle.join_graph.specs.Graphs.{JoinGraph, IsGraph, Crossed, Connected, Pairs, pair_of}
 use Rattle.join_graph.proofs.GraphLaws.{crossed_back}
 use Rattle.pair_stream.specs.Connectivity.{adjacent_to_members}
-use Rattle.pair_stream.specs.Subsets.{meets, least}
 use Rattle.pair_stream.specs.Orders.{BuildsSide, Ordered, Complete}
 use Rattle.dpe_base.proofs.Members.{contains_head, contains_tail, contains_none, contains_cases}
 use Rattle.pair_stream.proofs.Lists.{contains_map, contains_from_map, contains_filter, contains_from_filter, passes_from_filter, contains_flat_map, contains_from_flat_map, contains_range, contains_from_range, pairs_nil, pairs_head, pairs_tail, pairs_append, pairs_map, pairs_flat_map, pairs_range, pairs_weaker}
-use Rattle.pair_stream.proofs.SubsetLaws.{least_is, meets_true}
+use Rattle.pair_stream.proofs.SubsetLaws.{least_is}
 use Rattle.pair_stream.proofs.ConnectivityLaws.{joined_true, connected_least}
 use Rattle.pair_stream.proofs.OrderLaws.{MayPrecede, complete_from, ordered_from}
 use Rattle.pair_stream.specs.Parts.{part}

@@ -7,7 +7,9 @@ use Rattle.std.proofs.lemmas.List.{drop_all}
 use Rattle.dpe_base.specs.declared.pair.Pair.{Pair}
 use Rattle.join_graph.specs.Graphs.{JoinGraph}
 use Rattle.pair_stream.specs.Parts.{part}
-use Rattle.enum_dpsize.specs.Dpsize.{IsDpsizeState, NextSizes, pairs_sized, rows_from, start_at, dpsize_left, seq_dpsize}
+use Rattle.pair_stream.proofs.DpsubSteps.{one_on}
+use Rattle.enum_dpsize.specs.Dpsize.{pairs_sized, start_at, seq_dpsize}
+use Rattle.enum_dpsize.specs.DpsizeLeft.{IsDpsizeState, NextSizes, rows_from, dpsize_left}
 use Rattle.enum_dpsize.proofs.RowLaws.{row_begins}
 use Rattle.enum_dpsize.proofs.PartLists.{parts_length, part_read}
 
@@ -168,20 +170,17 @@ step_sizes g parts s k i j n s' k' j' f en e next ej =
         record { graph = f.graph; made = f.made; small = omega (arith, h.2); half = omega (arith, h.0, h.1, h.2); known = omega (arith, h.1, h.2, f.known); fits = small_fits f h.0 h.2 },
         left_small g s k i j e h.0
             ∙ ap (λ (x : ℕ). dpsize_left g x (suc k) 0 (start_at (nat_eq (suc k) (x - suc k)) 0)) (sym h.1)
-            ∙ ap (λ (x : ℕ). dpsize_left g s' x 0 (start_at (nat_eq x (s' - x)) 0)) (one_more h.2)
+            ∙ ap (λ (x : ℕ). dpsize_left g s' x 0 (start_at (nat_eq x (s' - x)) 0)) (one_on _ _ h.2)
             ∙ ap (dpsize_left g s' k' 0) (sym ej),
       )
       | inr h ↦ (
         record { graph = f.graph; made = f.made; small = omega (arith, h.3); half = omega (arith, h.2, h.3, f.small, f.half); known = omega (arith, h.1, h.2, h.3, en); fits = omega (arith, h.3, f.graph.some) },
         left_size g s k i j e h.0 (omega (arith, h.1, en)) (omega (arith, f.small, f.half))
-            ∙ ap (λ (x : ℕ). dpsize_left g x 1 0 (start_at (nat_eq 1 (x - 1)) 0)) (one_more h.2)
+            ∙ ap (λ (x : ℕ). dpsize_left g x 1 0 (start_at (nat_eq 1 (x - 1)) 0)) (one_on _ _ h.2)
             ∙ ap (λ (x : ℕ). dpsize_left g s' x 0 (start_at (nat_eq x (s' - x)) 0)) (sym h.3)
             ∙ ap (dpsize_left g s' k' 0) (sym ej),
       )
     ]
   where
-    one_more : {a b : ℕ} → b ≡ a + 1 → suc a ≡ b
-    one_more {a} {b} h = omega arith
-
     small_fits : IsDpsizeState g parts s k → k * 2 + 2 ≤ s → k' ≡ k + 1 → k' ≤ g.n
     small_fits f l h = omega (arith, f.known, l, h)

@@ -2,11 +2,11 @@
 use Rattle.std.proofs.Common.{◌≡◌, refl, [], ◌∷◌}
 use Rattle.std.specs.Int.Count.{count_trailing_zeros}
 use Rattle.std.specs.Int.RustNames.{count_ones}
-use Rattle.dpe_base.specs.Sets.{member, union, inter, minus, single, full, size, alone, members_below}
+use Rattle.dpe_base.specs.Sets.{member, union, inter, minus, single, full, size, alone, members_below, least}
 use Rattle.join_graph.proofs.Samples.{edge, graph}
 use Rattle.join_graph.specs.Graphs.{pair_of, adjacency, adjacent_to, other_end}
 use Rattle.pair_stream.specs.Connectivity.{adjacent_if_member, adjacent_to_members, is_connected}
-use Rattle.pair_stream.specs.Subsets.{least, subsets_after}
+use Rattle.pair_stream.specs.Subsets.{subsets_after}
 use Rattle.pair_stream.specs.Parts.{part, connected_sets, connected_of_size}
 use Rattle.enum_dpsize.specs.Dpsize.{is_joinable, pair_by_least, pairs_with, pairs_sized, seq_dpsize}
 

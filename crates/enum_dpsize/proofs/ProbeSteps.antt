@@ -13,8 +13,11 @@ use Rattle.pair_stream.specs.Parts.{part}
 use Rattle.pair_stream.proofs.Lists.{all_by, contains_from_range}
 use Rattle.skip_vector.specs.Skips.{probes_from}
 use Rattle.skip_vector.proofs.ProbeLaws.{probes_few}
-use Rattle.enum_dpsize.specs.Dpsize.{start_at, NextSizes, IsDpsizeState}
-use Rattle.enum_dpsize.specs.Dpsva.{row_probes, rows_probes, sized_probes, dpsva_probes, rows_probes_from, probes_left}
+use Rattle.pair_stream.proofs.DpsubSteps.{one_on}
+use Rattle.enum_dpsize.specs.Dpsize.{start_at}
+use Rattle.enum_dpsize.specs.DpsizeLeft.{NextSizes, IsDpsizeState}
+use Rattle.enum_dpsize.specs.Dpsva.{row_probes, rows_probes, sized_probes, dpsva_probes}
+use Rattle.enum_dpsize.specs.DpsvaLeft.{rows_probes_from, probes_left}
 use Rattle.enum_dpsize.proofs.PartLists.{part_few}
 
 -- ---- rows
@@ -159,17 +162,14 @@ probes_next g parts s k i j n s' k' j' f en o next ej =
       | inl h ↦
           left_small g s k i j o h.0
           ∙ ap (λ (x : ℕ). probes_left g x (suc k) 0 (start_at (nat_eq (suc k) (x - suc k)) 0)) (sym h.1)
-          ∙ ap (λ (x : ℕ). probes_left g s' x 0 (start_at (nat_eq x (s' - x)) 0)) (one_more h.2)
+          ∙ ap (λ (x : ℕ). probes_left g s' x 0 (start_at (nat_eq x (s' - x)) 0)) (one_on _ _ h.2)
           ∙ ap (probes_left g s' k' 0) (sym ej)
       | inr h ↦
           left_size g s k i j o h.0 (omega (arith, h.1, en)) (omega (arith, f.small, f.half))
-          ∙ ap (λ (x : ℕ). probes_left g x 1 0 (start_at (nat_eq 1 (x - 1)) 0)) (one_more h.2)
+          ∙ ap (λ (x : ℕ). probes_left g x 1 0 (start_at (nat_eq 1 (x - 1)) 0)) (one_on _ _ h.2)
           ∙ ap (λ (x : ℕ). probes_left g s' x 0 (start_at (nat_eq x (s' - x)) 0)) (sym h.3)
           ∙ ap (probes_left g s' k' 0) (sym ej)
     ]
-  where
-    one_more : {a b : ℕ} → b ≡ a + 1 → suc a ≡ b
-    one_more {a} {b} h = omega arith
 
 -- what a row gives stays in its sizes
 pub probes_here : (g : JoinGraph) (s k : ℕ) (xs ys : List ℕ) (i j i' j' a b : ℕ) → xs ≡ part g k → ys ≡ part g (s - k) → b + rows_probes_from ys (nat_eq k (s - k)) xs i' j' ≡ a + rows_probes_from ys (nat_eq k (s - k)) xs i j → b + probes_left g s k i' j' ≡ a + probes_left g s k i j

@@ -5,13 +5,13 @@ use Rattle.std.proofs.lemmas.Bool.{cases_lt, cond-true, cond-false, and_left, no
 use Rattle.std.specs.Cmp.{both_ways as test_same}
 use Rattle.std.proofs.lemmas.List.{drop_all}
 use Rattle.dpe_base.specs.declared.pair.Pair.{Pair}
-use Rattle.dpe_base.specs.Sets.{Has, IsLeast, Meets}
+use Rattle.dpe_base.specs.Sets.{Has, IsLeast, Meets, meets, least}
 use Rattle.join_graph.specs.Graphs.{JoinGraph, IsGraph, Edge, Crossed, Connected, IsNeighbours}
 use Rattle.pair_stream.specs.Connectivity.{adjacent_to_members}
-use Rattle.pair_stream.specs.Subsets.{meets, least}
-use Rattle.pair_stream.proofs.SubsetLaws.{meets_true}
+use Rattle.dpe_base.proofs.SizeLaws.{meets_true}
 use Rattle.pair_stream.proofs.ConnectivityLaws.{joined_true, connected_least}
-use Rattle.enum_dpsize.specs.Dpsize.{is_joinable, pair_by_least, pairs_with, pairs_after, row_pairs, rows_from, start_at}
+use Rattle.enum_dpsize.specs.Dpsize.{is_joinable, pair_by_least, pairs_with, pairs_after, row_pairs, start_at}
+use Rattle.enum_dpsize.specs.DpsizeLeft.{rows_from}
 
 pub not_joinable : (g : JoinGraph) (x y : ℕ) → Meets x y → false ≡ is_joinable g x y
 unfolding is_joinable

@@ -1,28 +1,19 @@
 -- A row by skips: what the scan leaps over cannot be joined, and its probes are those that are left.
-use Rattle.std.proofs.Common.{◌≡◌, ◌≢◌, ℕ, zero, suc, ◌+◌, ◌-◌, ◌^◌, ◌<◌, ◌≤◌, arith, sym, ◌∙◌, ap, true, false, not, List, ◌∷◌, length, get_or, slice_index, drop, nat_eq}
+use Rattle.std.proofs.Common.{◌≡◌, ℕ, zero, suc, ◌+◌, ◌-◌, ◌^◌, ◌<◌, ◌≤◌, arith, sym, ◌∙◌, ap, true, false, List, ◌∷◌, length, get_or, slice_index, drop}
 use Rattle.std.specs.Prelude.{All}
-use Rattle.std.proofs.lemmas.Bool.{and_left, ne_eqb, not_from_false, not_from_true}
 use Rattle.std.proofs.lemmas.List.{get_or_default}
 use Rattle.dpe_base.specs.declared.pair.Pair.{Pair}
-use Rattle.dpe_base.specs.Sets.{inter}
-use Rattle.dpe_base.proofs.SetLaws.{sets, same_set, member-same}
+use Rattle.dpe_base.specs.Sets.{Meets}
 use Rattle.dpe_base.proofs.SizeLaws.{within_span}
 use Rattle.join_graph.specs.Graphs.{JoinGraph, IsGraph, Connected}
-use Rattle.pair_stream.specs.Connectivity.{adjacent_to_members}
-use Rattle.pair_stream.specs.Subsets.{meets}
 use Rattle.skip_vector.specs.Skips.{IsPart, IsFirstFree, NoneFree, probes, probes_from}
 use Rattle.skip_vector.proofs.JoinLaws.{probes_rest}
 use Rattle.enum_dpsize.specs.Dpsize.{is_joinable, pair_by_least, pairs_with}
-use Rattle.enum_dpsize.proofs.RowLaws.{row_taken, row_passed}
+use Rattle.enum_dpsize.proofs.RowLaws.{not_joinable, row_taken, row_passed}
 
 -- a blocked entry cannot be joined
-blocked_out : (g : JoinGraph) (x y : ℕ) → inter y x ≢ 0 → false ≡ is_joinable g x y
-unfolding is_joinable
-blocked_out g x y ne =
-    sym (and_left (not (meets x y)) (meets (adjacent_to_members g x g.n) y) (not_from_true (meets x y) (not_from_false (nat_eq (inter x y) 0) (ne_eqb (inter x y) 0 (λ e. ne (turned e))))))
-  where
-    turned : inter x y ≡ 0 → inter y x ≡ 0
-    turned e = same_set _ _ (λ r. grind (arith, sets, member-same e r))
+blocked_out : (g : JoinGraph) (x y : ℕ) → Meets y x → false ≡ is_joinable g x y
+blocked_out g x y m = not_joinable g x y (m.0, m.2, m.1)
 
 skipped : (g : JoinGraph) (ys : List ℕ) (x from d : ℕ) → from + d ≤ length ys → NoneFree ys x from (from + d) → pairs_with g (drop from ys) x ≡ pairs_with g (drop (from + d) ys) x
 skipped g ys x from zero l none = ap (λ (k : ℕ). pairs_with g (drop k ys) x) here

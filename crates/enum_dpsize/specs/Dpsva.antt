@@ -1,5 +1,5 @@
--- How many entries the scans by skip vectors look at, and the state of the stream that counts them.
-use Rattle.std.specs.Prelude.{◌≡◌, ℕ, suc, ◌+◌, ◌-◌, ◌/◌, ◌<◌, ◌^◌, Bool, true, ◌&&◌, ◌==◌, nat_lt, List, [], length, slice_index, sum_by, if◌then◌else◌}
+-- How many entries the scans by skip vectors look at, and the stream that counts them.
+use Rattle.std.specs.Prelude.{◌≡◌, ℕ, ◌-◌, ◌/◌, Bool, true, ◌&&◌, ◌==◌, List, [], length, slice_index, sum_by}
 use Rattle.std.specs.List.{range_with_len}
 use Rattle.std.proofs.lemmas.Bool.{and_parts, eqb-true}
 use Rattle.dpe_base.specs.declared.pair.Pair.{Pair}
@@ -7,7 +7,7 @@ use Rattle.join_graph.specs.Graphs.{JoinGraph, IsGraph}
 use Rattle.pair_stream.specs.Parts.{part, parts_of}
 use Rattle.pair_stream.specs.Streams.{is_over, over_is_empty}
 use Rattle.skip_vector.specs.Skips.{probes_from}
-use Rattle.enum_dpsize.specs.Dpsize.{start_at, IsDpsizeState}
+use Rattle.enum_dpsize.specs.Dpsize.{start_at}
 
 -- the parts are those of some graph
 abbrev pub AreParts : List (List ℕ) → Type 0
@@ -31,18 +31,6 @@ unfoldable pub dpsva_probes : JoinGraph → ℕ
 dpsva_probes g =
     sum_by (λ s. sum_by (λ k. sized_probes g k (s - k)) (range_with_len 1 (s / 2))) (range_with_len 2 (g.n - 1))
 
--- how many entries are still to be looked at from place j of row i on
-unfoldable pub rows_probes_from : List ℕ → Bool → List ℕ → ℕ → ℕ → ℕ
-rows_probes_from ys same xs i j =
-    if nat_lt i (length xs) then probes_from ys j (slice_index xs i) + rows_probes ys same xs (suc i) else 0
-
--- the same from the sizes s and k, row i and place j
-unfoldable pub probes_left : JoinGraph → ℕ → ℕ → ℕ → ℕ → ℕ
-probes_left g s k i j =
-    rows_probes_from (part g (s - k)) (k == s - k) (part g k) i j
-    + (sum_by (λ k. sized_probes g k (s - k)) (range_with_len (suc k) (s / 2 - k))
-    + sum_by (λ s. sum_by (λ k. sized_probes g k (s - k)) (range_with_len 1 (s / 2))) (range_with_len (suc s) (g.n - s)))
-
 -- the pairs that are left, the probes so far, and those of the whole stream
 pub record CountedStream : Type 0 where
   pub pairs : List Pair
@@ -56,8 +44,3 @@ pub ended_stream : (s : CountedStream) → has_ended s ≡ true → (s.pairs ≡
 ended_stream s t =
     let both = and_parts (is_over s.pairs) (s.probed == s.total) t in
     (over_is_empty s.pairs both.0, eqb-true s.probed s.total both.1)
-
--- what every state keeps
-pub record IsDpsvaState (g : JoinGraph) (parts : List (List ℕ)) (s k i j probes : ℕ) : Type 0 where
-  pub state : IsDpsizeState g parts s k
-  pub few : probes + probes_left g s k i j < 2 ^ 64

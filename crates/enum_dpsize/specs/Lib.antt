@@ -1,2 +1,4 @@
 pub mod Dpsize
+pub mod DpsizeLeft
 pub mod Dpsva
+pub mod DpsvaLeft

@@ -4,7 +4,8 @@ ghost use Rattle.join_graph.specs.Graphs.{Connected};
 ghost use Rattle.pair_stream.specs.Orders.{Ordered, Complete};
 ghost use Rattle.pair_stream.specs.Parts.{parts_of};
 ghost use Rattle.pair_stream.specs.Streams.{Takes};
-ghost use Rattle.enum_dpsize.specs.Dpsize.{pairs_with, rows_from, seq_dpsize};
+ghost use Rattle.enum_dpsize.specs.Dpsize.{pairs_with, seq_dpsize};
+ghost use Rattle.enum_dpsize.specs.DpsizeLeft.{rows_from};
 
 use crate::pairs::{is_joinable, pair_by_least};
 use crate::sizes::{next_sizes, start_at};
@@ -32,7 +33,7 @@ pub struct DpSize<'a> {
 impl<'a> Model for DpSize<'a> {
     ghost use Rattle.std.specs.Prelude.{List};
     ghost use Rattle.dpe_base.specs.declared.pair.Pair.{Pair};
-    ghost use Rattle.enum_dpsize.specs.Dpsize.{dpsize_left, IsDpsizeState};
+    ghost use Rattle.enum_dpsize.specs.DpsizeLeft.{dpsize_left, IsDpsizeState};
 
     ghost Value = { List Pair };
 

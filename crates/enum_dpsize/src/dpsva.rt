@@ -4,8 +4,10 @@ ghost use Rattle.pair_stream.specs.Orders.{Ordered, Complete};
 ghost use Rattle.pair_stream.specs.Parts.{parts_of};
 ghost use Rattle.pair_stream.specs.Streams.{Takes};
 ghost use Rattle.skip_vector.specs.Skips.{probes_from};
-ghost use Rattle.enum_dpsize.specs.Dpsize.{pairs_with, rows_from, seq_dpsize};
-ghost use Rattle.enum_dpsize.specs.Dpsva.{rows_probes_from, dpsva_probes};
+ghost use Rattle.enum_dpsize.specs.Dpsize.{pairs_with, seq_dpsize};
+ghost use Rattle.enum_dpsize.specs.DpsizeLeft.{rows_from};
+ghost use Rattle.enum_dpsize.specs.Dpsva.{dpsva_probes};
+ghost use Rattle.enum_dpsize.specs.DpsvaLeft.{rows_probes_from};
 
 use crate::pairs::{is_joinable, pair_by_least};
 use crate::sizes::{next_sizes, start_at};
@@ -18,7 +20,7 @@ use std::marker::Model;
 use std::sync::ledger::Ledger;
 
 /// The enumeration by sizes with skip vectors, DPsva: the pairs of [`crate::DpSize`] in the same order, where for each
-/// first side a scan leaps over second sides that share the relation that blocks them.
+/// first side a scan leaps over second sides that share the prefix up to the relation that blocks them.
 ///
 /// After Han, Kwak, Lee, Lohman and Markl, "Parallelizing Query Optimization", VLDB 2008.
 #[derive(Drop)]
@@ -34,8 +36,9 @@ pub struct DpSva<'a> {
 
 impl<'a> Model for DpSva<'a> {
     ghost use Rattle.std.specs.Prelude.{◌+◌};
-    ghost use Rattle.enum_dpsize.specs.Dpsize.{dpsize_left};
-    ghost use Rattle.enum_dpsize.specs.Dpsva.{CountedStream, IsDpsvaState, probes_left};
+    ghost use Rattle.enum_dpsize.specs.DpsizeLeft.{dpsize_left};
+    ghost use Rattle.enum_dpsize.specs.Dpsva.{CountedStream};
+    ghost use Rattle.enum_dpsize.specs.DpsvaLeft.{IsDpsvaState, probes_left};
 
     ghost Value = { CountedStream };
 

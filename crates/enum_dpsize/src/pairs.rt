@@ -1,6 +1,6 @@
 ghost use Rattle.std.specs.Prelude.{◌≡◌};
 ghost use Rattle.join_graph.specs.Graphs.{Connected, IsNeighbours};
-ghost use Rattle.pair_stream.specs.Subsets.{least};
+ghost use Rattle.dpe_base.specs.Sets.{least};
 ghost use Rattle.enum_dpsize.specs.Dpsize.{is_joinable, pair_by_least};
 
 use dpe_base::{Pair, RelSet};

@@ -1,5 +1,6 @@
 ghost use Rattle.std.specs.Prelude.{◌≡◌, ◌<◌, ◌^◌};
-ghost use Rattle.enum_dpsize.specs.Dpsize.{start_at, NextSizes};
+ghost use Rattle.enum_dpsize.specs.Dpsize.{start_at};
+ghost use Rattle.enum_dpsize.specs.DpsizeLeft.{NextSizes};
 
 /// Where a row begins.
 pub fn start_at(same: bool, row: usize) -> usize

@@ -2,15 +2,16 @@
 use Rattle.std.proofs.Common.{◌≡◌, ◌≢◌, ◌↔◌, ℕ, zero, suc, ◌<◌, inl, inr, arith, refl, sym, subst, Bool, true, not, ◌&&◌, List, [], ◌∷◌, get_or, nat_eq}
 use Rattle.std.specs.List.{Contains, list_all}
 use Rattle.std.proofs.lemmas.Bool.{cases_eq, cond-true, cond-false, eqb-true, eqb-false, eq-eqb, ne_eqb, and_parts, and_from, or_cases, or_left, or_right, not-true, not_from_false}
-use Rattle.dpe_base.specs.Sets.{Has, Within, Disjoint, Meets, IsLeast, member, union, minus, full}
-use Rattle.dpe_base.proofs.SetLaws.{sets, same_set, member-same, empty_has, union_left, union_right, union_cases, rest_apart, rest_whole}
+use Rattle.dpe_base.specs.Sets.{Has, Within, Disjoint, Meets, IsLeast, member, union, minus, full, is_within, meets, least}
+use Rattle.dpe_base.proofs.SetLaws.{sets, same_set, member-same, empty_has, union_left, union_right, union_cases, rest_apart, rest_whole, is_within_true}
 use Rattle.join_graph.specs.Graphs.{JoinGraph, IsGraph, Edge, Crossed, Connected, IsNeighbours}
 use Rattle.join_graph.proofs.Edges.{neighbours_from, crossed_from}
 use Rattle.join_graph.proofs.GraphLaws.{crossed_more}
-use Rattle.pair_stream.specs.Subsets.{is_within, meets, subsets, least}
+use Rattle.pair_stream.specs.Subsets.{subsets}
 use Rattle.pair_stream.specs.Connectivity.{adjacent_if_member, adjacent_to_members, neighbours, is_connected, is_crossed_at}
 use Rattle.dpe_base.proofs.Members.{contains_head, contains_tail, contains_none, contains_cases}
-use Rattle.pair_stream.proofs.SubsetLaws.{is_within_true, meets_true, subsets_has, least_is, positive}
+use Rattle.pair_stream.proofs.SubsetLaws.{subsets_has, least_is, positive}
+use Rattle.dpe_base.proofs.SizeLaws.{meets_true}
 
 -- ---- what is joined to a set
 

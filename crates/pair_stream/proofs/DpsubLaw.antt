@@ -4,12 +4,12 @@ use Rattle.std.specs.List.{AllPairs, Contains, filter, range_with_len}
 use Rattle.std.proofs.lemmas.Bool.{cases_Bool, cond-true, cond-false, eqb-true, eq-eqb, and_parts, and_from}
 use Rattle.std.proofs.lemmas.List.Kept.{AllPairs-filter}
 use Rattle.dpe_base.specs.declared.pair.Pair.{Pair}
-use Rattle.dpe_base.specs.Sets.{Has, Within, Disjoint, IsLeast, member, union, minus, full}
+use Rattle.dpe_base.specs.Sets.{Has, Within, Disjoint, IsLeast, member, union, minus, full, least}
 use Rattle.dpe_base.proofs.SetLaws.{sets, same_set, rest_apart, rest_whole, union_left, union_right, least_same}
 use Rattle.dpe_base.proofs.NextSubset.{within_le}
 use Rattle.join_graph.specs.Graphs.{JoinGraph, IsGraph, Connected, Pairs, pair_of}
 use Rattle.join_graph.proofs.GraphLaws.{connected_union}
-use Rattle.pair_stream.specs.Subsets.{least, subsets}
+use Rattle.pair_stream.specs.Subsets.{subsets}
 use Rattle.pair_stream.specs.Connectivity.{is_connected}
 use Rattle.pair_stream.specs.Orders.{BuildsSide, Ordered, Complete}
 use Rattle.pair_stream.specs.Dpsub.{is_split, splits_of, seq_dpsub}

@@ -5,14 +5,15 @@ use Rattle.std.specs.Cmp.{both_ways as test_same}
 use Rattle.std.proofs.lemmas.Bool.{cond-true, cond-false, eqb-true, and_parts, false_from_ne_true}
 use Rattle.dpe_base.specs.declared.TheConstants.{N_MAX}
 use Rattle.dpe_base.specs.declared.pair.Pair.{Pair}
-use Rattle.dpe_base.specs.Sets.{Has, Within, IsLeast, IsNextSubset, member, union, minus, single, full}
+use Rattle.dpe_base.specs.Sets.{Has, Within, IsLeast, IsNextSubset, member, union, minus, single, full, least}
 use Rattle.dpe_base.proofs.SetLaws.{sets, member-same, has_some, full_limit, minus_left, least_same}
 use Rattle.dpe_base.proofs.NextSubset.{within_le}
 use Rattle.join_graph.specs.Graphs.{JoinGraph, IsGraph, Connected, pair_of}
-use Rattle.pair_stream.specs.Subsets.{least, subsets_after, IsNextWithLeast}
+use Rattle.pair_stream.specs.Subsets.{subsets_after, IsNextWithLeast}
 use Rattle.pair_stream.specs.Connectivity.{is_connected}
 use Rattle.pair_stream.specs.Orders.{Ordered, Complete}
-use Rattle.pair_stream.specs.Dpsub.{is_split, splits_of, seq_dpsub, dpsub_left}
+use Rattle.pair_stream.specs.Dpsub.{is_split, splits_of, seq_dpsub}
+use Rattle.pair_stream.specs.DpsubLeft.{dpsub_left}
 use Rattle.pair_stream.proofs.SubsetLaws.{subsets_skip, subsets_last, least_is}
 use Rattle.pair_stream.proofs.NextWithLeast.{next_with_least}
 use Rattle.pair_stream.proofs.ConnectivityLaws.{is_connected_true}
@@ -82,7 +83,7 @@ left_more g s l =
     step : suc s + 1 ≡ suc (suc s)
     step = omega arith
 
-one_on : (s t : ℕ) → t ≡ s + 1 → suc s ≡ t
+pub one_on : (s t : ℕ) → t ≡ s + 1 → suc s ≡ t
 one_on s t e = omega arith
 
 -- the next set is connected

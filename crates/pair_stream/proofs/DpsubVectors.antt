@@ -1,10 +1,10 @@
 -- The vectors of the list by unions.
 use Rattle.std.proofs.Common.{◌≡◌, refl, [], ◌∷◌}
 use Rattle.std.specs.Int.Count.{count_trailing_zeros}
-use Rattle.dpe_base.specs.Sets.{member, union, inter, minus, single, full}
+use Rattle.dpe_base.specs.Sets.{member, union, inter, minus, single, full, least}
 use Rattle.join_graph.proofs.Samples.{edge, graph}
 use Rattle.join_graph.specs.Graphs.{pair_of, adjacency, adjacent_to, other_end}
-use Rattle.pair_stream.specs.Subsets.{least, subsets_after}
+use Rattle.pair_stream.specs.Subsets.{subsets_after}
 use Rattle.pair_stream.specs.Connectivity.{adjacent_if_member, adjacent_to_members, is_connected}
 use Rattle.pair_stream.specs.Dpsub.{is_split, splits_of, seq_dpsub}
 

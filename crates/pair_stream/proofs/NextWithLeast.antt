@@ -6,9 +6,9 @@ use Rattle.std.specs.Int.RustNames.{bit_and}
 use Rattle.std.proofs.lemmas.Bool.{cases_eq, cases_lt}
 use Rattle.std.proofs.lemmas.Nat.{div-add-mod', or_disjoint, pow_pos}
 use Rattle.std.proofs.lemmas.Nat.Bits.{and_pow, bit_at_cat_low, bit_at-lt, bit_at-zero, same_from_bits_below}
-use Rattle.dpe_base.specs.Sets.{Has, Within, IsLeast, IsNextSubset, member, union, single}
+use Rattle.dpe_base.specs.Sets.{Has, Within, IsLeast, IsNextSubset, member, union, single, least}
 use Rattle.dpe_base.proofs.NextSubset.{within_le}
-use Rattle.pair_stream.specs.Subsets.{least, IsNextWithLeast}
+use Rattle.pair_stream.specs.Subsets.{IsNextWithLeast}
 use Rattle.dpe_base.proofs.SetLaws.{single_has, single_one, union_left, union_right, union_within, within_same}
 
 -- no digit below the least member is set

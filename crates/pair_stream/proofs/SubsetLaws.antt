@@ -1,29 +1,17 @@
 -- Subsets in the order of their numbers, and the least member.
 use Rattle.std.proofs.Common.{◌≡◌, ◌≢◌, ◌↔◌, ℕ, zero, suc, ◌+◌, ◌-◌, ◌<◌, ◌≤◌, inl, inr, arith, refl, sym, ◌∙◌, ap, subst, Bool, true, false, List, [], ◌∷◌}
 use Rattle.std.specs.List.{AllPairs, Contains, filter, range_with_len}
-use Rattle.std.proofs.lemmas.Bool.{cases_eq, cases_lt, cases_Bool, cond-true, cond-false, eqb-true, eqb-false, eq-eqb, ne_eqb, not-true, not_from_false}
+use Rattle.std.proofs.lemmas.Bool.{cases_eq, cases_lt, cases_Bool, cond-true, cond-false}
 use Rattle.std.proofs.lemmas.Nat.{pow_pos}
 use Rattle.std.proofs.lemmas.List.Kept.{AllPairs-filter}
 use Rattle.dpe_base.specs.declared.TheConstants.{N_MAX}
-use Rattle.dpe_base.specs.Sets.{Has, Within, Meets, IsLeast, IsNextSubset, inter, full}
-use Rattle.dpe_base.proofs.SetLaws.{member-above, disjoint_by_inter, within_by_inter, least_by_zeros, inter_left, inter_right, full_has, full_limit}
+use Rattle.dpe_base.specs.Sets.{Within, IsLeast, IsNextSubset, full, is_within, least}
+use Rattle.dpe_base.proofs.SetLaws.{member-above, is_within_true, least_of_set, full_has, full_limit}
 use Rattle.dpe_base.proofs.NextSubset.{within_le}
-use Rattle.dpe_base.proofs.SizeLaws.{some_member, within_span}
-use Rattle.pair_stream.specs.Subsets.{is_within, meets, subsets_after, least, descending}
+use Rattle.dpe_base.proofs.SizeLaws.{within_span}
+use Rattle.pair_stream.specs.Subsets.{subsets_after, descending}
 use Rattle.dpe_base.proofs.Members.{contains_head, contains_tail, contains_none, contains_cases}
 use Rattle.pair_stream.proofs.Lists.{contains_filter, contains_from_filter, passes_from_filter, contains_range, contains_from_range, pairs_nil, pairs_cons, pairs_range}
-
-pub is_within_true : (a b : ℕ) → (is_within a b ≡ true) ↔ Within a b
-is_within_true a b =
-    (λ t. (within_by_inter a b).0 (eqb-true _ _ t), λ w. eq-eqb _ _ ((within_by_inter a b).1 w))
-
-pub meets_true : (a b : ℕ) → (meets a b ≡ true) ↔ Meets a b
-meets_true a b = (
-  λ t.
-      let m : (r : ℕ) × Has (inter a b) r = some_member (inter a b) (eqb-false _ _ (not-true _ t)) in
-      (m.0, inter_left a b m.0 m.1, inter_right a b m.0 m.1),
-  λ m. not_from_false _ (ne_eqb _ _ (λ e. (disjoint_by_inter a b).0 e m.0 m.1 m.2)),
-)
 
 -- ---- subsets in ascending order
 
@@ -129,8 +117,7 @@ descending_order (suc n) = pairs_cons (λ x y. y < x) n (descending n) (λ y c. 
 -- ---- the least member
 
 pub least_is : (s n : ℕ) → Within s (full n) → n ≤ N_MAX → s ≢ 0 → IsLeast s (least s)
-unfolding least
-least_is s n w l ne = (least_by_zeros s (omega (arith, within_span s n w l)) ne).1
+least_is s n w l ne = least_of_set s (omega (arith, within_span s n w l)) ne
 
 -- a number up to the greatest is a set of relations below n
 pub within_full : (s n : ℕ) → s ≤ full n → Within s (full n)

@@ -1,9 +1,9 @@
 -- The neighbours of a set, and the test of connectivity, as functions.
 use Rattle.std.specs.Prelude.{ℕ, zero, suc, Bool, ◌&&◌, ◌||◌, ◌==◌, not, slice_index, if◌then◌else◌}
 use Rattle.std.specs.List.{list_all}
-use Rattle.dpe_base.specs.Sets.{member, union, minus, full}
+use Rattle.dpe_base.specs.Sets.{member, union, minus, full, is_within, meets}
 use Rattle.join_graph.specs.Graphs.{JoinGraph}
-use Rattle.pair_stream.specs.Subsets.{is_within, meets, subsets}
+use Rattle.pair_stream.specs.Subsets.{subsets}
 
 -- what is joined to r, where r is a member of s
 unfoldable pub adjacent_if_member : JoinGraph → ℕ → ℕ → ℕ

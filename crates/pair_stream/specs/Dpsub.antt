@@ -1,10 +1,10 @@
 -- The pairs by ascending unions, then by ascending first sides.
-use Rattle.std.specs.Prelude.{ℕ, suc, ◌-◌, Bool, ◌&&◌, ◌==◌, List, [], ◌++◌, map, if◌then◌else◌}
+use Rattle.std.specs.Prelude.{ℕ, Bool, ◌&&◌, ◌==◌, List, [], map, if◌then◌else◌}
 use Rattle.std.specs.List.{range_with_len, filter, flat_map}
 use Rattle.dpe_base.specs.declared.pair.Pair.{Pair}
-use Rattle.dpe_base.specs.Sets.{member, minus, full}
+use Rattle.dpe_base.specs.Sets.{member, minus, full, least}
 use Rattle.join_graph.specs.Graphs.{JoinGraph, pair_of}
-use Rattle.pair_stream.specs.Subsets.{least, subsets_after}
+use Rattle.pair_stream.specs.Subsets.{subsets_after}
 use Rattle.pair_stream.specs.Connectivity.{is_connected}
 
 -- a and the rest of s are a pair of connected sets, a with the least relation of s
@@ -17,9 +17,3 @@ splits_of g s = if is_connected g s then map (λ a. pair_of a (minus s a)) (filt
 
 unfoldable pub seq_dpsub : JoinGraph → List Pair
 seq_dpsub g = flat_map (splits_of g) (range_with_len 1 (full g.n))
-
--- the pairs after the first side a of the union s
-unfoldable pub dpsub_left : JoinGraph → ℕ → ℕ → List Pair
-dpsub_left g s a =
-    map (λ a. pair_of a (minus s a)) (filter (is_split g s) (subsets_after a s))
-    ++ flat_map (splits_of g) (range_with_len (suc s) (full g.n - s))

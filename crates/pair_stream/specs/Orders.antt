@@ -1,10 +1,10 @@
 -- Lists of pairs that are complete, and lists whose pairs stand after the pairs that build their sides.
-use Rattle.std.specs.Prelude.{◌≡◌, ◌≢◌, ◌↔◌, ℕ, ◌<◌, ◌⊎◌, List, length, Contains, slice_index_or}
+use Rattle.std.specs.Prelude.{◌≡◌, ◌≢◌, ℕ, ◌<◌, ◌⊎◌, List, length, Contains, slice_index_or}
 use Rattle.std.specs.List.{AllPairs}
 use Rattle.dpe_base.specs.declared.pair.Pair.{Pair}
 use Rattle.dpe_base.specs.Sets.{union}
-use Rattle.join_graph.specs.Graphs.{JoinGraph, Pairs}
-use Rattle.join_graph.specs.PairLists.{SideBuilt}
+use Rattle.join_graph.specs.Graphs.{JoinGraph}
+use Rattle.join_graph.specs.PairLists.{HasAllPairs, SideBuilt}
 
 -- p stands at place k of the list
 abbrev pub StandsAt : List Pair → ℕ → Pair → Type 0
@@ -26,5 +26,5 @@ pub record Ordered (pairs : List Pair) : Type 0 where
 
 -- the members are the pairs of the graph, each at one place
 pub record Complete (g : JoinGraph) (pairs : List Pair) : Type 0 where
-  pub members : (p : Pair) → Contains pairs p ↔ Pairs g p
+  pub members : HasAllPairs g pairs
   pub once : Once pairs

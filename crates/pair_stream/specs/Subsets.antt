@@ -1,14 +1,7 @@
--- Subsets in the order of their numbers, and the least member.
-use Rattle.std.specs.Prelude.{ℕ, zero, suc, ◌-◌, ◌<◌, ◌≤◌, Bool, ◌==◌, not, List, [], ◌∷◌}
+-- Subsets in the order of their numbers, and numbers that descend.
+use Rattle.std.specs.Prelude.{ℕ, zero, suc, ◌-◌, ◌<◌, ◌≤◌, List, [], ◌∷◌}
 use Rattle.std.specs.List.{range_with_len, filter}
-use Rattle.std.specs.Int.Count.{count_trailing_zeros}
-use Rattle.dpe_base.specs.Sets.{Has, Within, inter}
-
-abbrev pub is_within : ℕ → ℕ → Bool
-is_within a b = inter a b == a
-
-abbrev pub meets : ℕ → ℕ → Bool
-meets a b = not (inter a b == 0)
+use Rattle.dpe_base.specs.Sets.{Has, Within, is_within, least}
 
 -- the subsets of whole above s, ascending
 unfoldable pub subsets_after : ℕ → ℕ → List ℕ
@@ -17,10 +10,6 @@ subsets_after s whole = filter (λ t. is_within t whole) (range_with_len (suc s)
 -- the subsets that are not empty, ascending
 abbrev pub subsets : ℕ → List ℕ
 subsets whole = subsets_after 0 whole
-
--- the least member, where there is one
-unfoldable pub least : ℕ → ℕ
-least s = count_trailing_zeros 32 s
 
 -- the numbers below n, descending
 unfoldable pub descending : ℕ → List ℕ

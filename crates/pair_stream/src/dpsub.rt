@@ -1,8 +1,8 @@
 ghost use Rattle.std.specs.Prelude.{◌≡◌, refl, IfSome, List};
 ghost use Rattle.std.specs.Option.{IfNone};
 ghost use Rattle.dpe_base.specs.declared.pair.Pair.{Pair};
-ghost use Rattle.dpe_base.specs.Sets.{Has, Within, full};
-ghost use Rattle.pair_stream.specs.Subsets.{least, IsNextWithLeast};
+ghost use Rattle.dpe_base.specs.Sets.{Has, Within, full, least};
+ghost use Rattle.pair_stream.specs.Subsets.{IsNextWithLeast};
 ghost use Rattle.pair_stream.specs.Orders.{Ordered, Complete};
 ghost use Rattle.pair_stream.specs.Dpsub.{is_split, seq_dpsub};
 
@@ -31,7 +31,7 @@ impl Model for DpSub {
     ghost use Rattle.dpe_base.specs.declared.pair.Pair.{Pair};
     ghost use Rattle.dpe_base.specs.Sets.{Within, full};
     ghost use Rattle.join_graph.specs.Graphs.{IsGraph};
-    ghost use Rattle.pair_stream.specs.Dpsub.{dpsub_left};
+    ghost use Rattle.pair_stream.specs.DpsubLeft.{dpsub_left};
 
     ghost Value = { List Pair };
 

@@ -5,9 +5,9 @@ use Rattle.std.specs.Int.Count.{count_trailing_zeros}
 use Rattle.std.proofs.lemmas.Bool.{cases_eq, cases_lt, ne_eqb}
 use Rattle.std.proofs.lemmas.List.{take-append-le}
 use Rattle.std.proofs.lemmas.Nat.{one_shl}
-use Rattle.dpe_base.specs.Sets.{member, Has, IsLeast, inter, full, size, alone, members, members_below}
-use Rattle.dpe_base.proofs.SetLaws.{sets, same_set, member-bound, member-above, member-empty, member-inter, least_by_zeros, inter_lt}
-use Rattle.dpe_base.proofs.SizeLaws.{counted}
+use Rattle.dpe_base.specs.Sets.{member, Has, Meets, IsLeast, inter, full, size, alone, members, members_below}
+use Rattle.dpe_base.proofs.SetLaws.{member-bound, member-inter, least_by_zeros, inter_lt}
+use Rattle.dpe_base.proofs.SizeLaws.{counted, size_counts, meets_by_inter}
 use Rattle.dpe_base.proofs.ListOrder.{alone-member, alone-other, split_at, between_first, between, between_cases, FirstIn, from_k, first_of, first_digit, same_below, same_by_xor}
 use Rattle.skip_vector.specs.Skips.{first_relations, up_to, blocking_prefix}
 
@@ -136,16 +136,17 @@ unfolding HasIn
 hasin_later x [] b h = h
 hasin_later x (r ∷ a) b h = inr (hasin_later x a b h)
 
-pub hasin_from : (s x : ℕ) → s < 2 ^ 32 → inter s x ≢ 0 → HasIn x (members s)
+pub hasin_from : (s x : ℕ) → s < 2 ^ 32 → Meets s x → HasIn x (members s)
 unfolding HasIn
-hasin_from s x l ne =
+hasin_from s x l m =
+    let ne : inter s x ≢ 0 = (meets_by_inter s x).1 m in
     let k : ℕ = count_trailing_zeros 32 (inter s x) in
     let z : (k < 32) × IsLeast (inter s x) k = least_by_zeros (inter s x) (inter_lt s x (2 ^ 32) l) ne in
     let is : member s k ≡ 1 = omega (arith, z.1.0, member-inter s x k, member-bound s k, member-bound x k) in
     let ix : member x k ≡ 1 = omega (arith, z.1.0, member-inter s x k, member-bound s k, member-bound x k) in
     subst (HasIn x) (sym (members_cut s k z.0 is)) (hasin_later x (members_below k s) (k ∷ between (suc k) (31 - k) s) (inl ix))
 
-hasin_below : (k s x : ℕ) → HasIn x (members_below k s) → (r : ℕ) × Has s r × Has x r
+hasin_below : (k s x : ℕ) → HasIn x (members_below k s) → Meets s x
 unfolding HasIn members_below
 hasin_below zero s x h = absurd h
 hasin_below (suc k) s x h =
@@ -157,10 +158,8 @@ hasin_below (suc k) s x h =
       ]
     ]
 
-pub hasin_meets : (s x : ℕ) → HasIn x (members s) → inter s x ≢ 0
-hasin_meets s x h e =
-    let r : (r : ℕ) × Has s r × Has x r = hasin_below 32 s x h in
-    omega (arith, member-inter s x r.0, ap (λ t. member t r.0) e, member-empty r.0, r.1, r.2)
+pub hasin_meets : (s x : ℕ) → HasIn x (members s) → Meets s x
+hasin_meets s x h = hasin_below 32 s x h
 
 -- how long a blocking prefix is
 
@@ -182,19 +181,10 @@ up_to_few x (r ∷ rs) =
       | inr ne ↦ rw (ne_eqb (member x r) 1 ne) (omega (arith, up_to_few x rs))
     ]
 
-pub blocking_some : (s x : ℕ) → s < 2 ^ 32 → inter s x ≢ 0 → 1 ≤ length (blocking_prefix x s)
+pub blocking_some : (s x : ℕ) → s < 2 ^ 32 → Meets s x → 1 ≤ length (blocking_prefix x s)
 unfolding blocking_prefix
-blocking_some s x l ne = up_to_some x (members s) (hasin_from s x l ne)
-
--- a list has as many relations as its set
-pub members-size : (s : ℕ) → s < 2 ^ 32 → length (members s) ≡ size s
-members-size s l =
-    let e : inter s (full 32) ≡ s = same_set _ _ (λ r. whole s r (member-above s 32 r l)) in
-    counted 32 s ∙ ap size e
-  where
-    whole : (s r : ℕ) → (32 ≤ r → member s r ≡ 0) → member (inter s (full 32)) r ≡ member s r
-    whole s r h = grind (arith, sets)
+blocking_some s x l m = up_to_some x (members s) (hasin_from s x l m)
 
 pub blocking_few : (s x : ℕ) → s < 2 ^ 32 → length (blocking_prefix x s) ≤ size s
 unfolding blocking_prefix
-blocking_few s x l = omega (arith, up_to_few x (members s), members-size s l)
+blocking_few s x l = omega (arith, up_to_few x (members s), size_counts s l)

@@ -1,18 +1,20 @@
 -- A scan by skips looks at each free entry and at the first entry of each blocking prefix.
-use Rattle.std.proofs.Common.{◌≡◌, ◌≢◌, ◌↔◌, IsTrue, ℕ, zero, suc, ◌+◌, ◌-◌, ◌<◌, ◌≤◌, ◌^◌, List, [], ◌∷◌, ◌++◌, length, take, slice_index, true, false, if◌then◌else◌, refl, sym, ◌∙◌, ap, subst, arith, inl, inr, ◌⊎◌, nat_cmp, add-suc, add-zero, get_or, Vec}
-use Rattle.std.specs.Cmp.Lexicographic.{slice_cmp}
+use Rattle.std.proofs.Common.{◌≡◌, ◌≢◌, ◌↔◌, IsTrue, ℕ, zero, suc, ◌+◌, ◌-◌, ◌<◌, ◌≤◌, List, [], ◌∷◌, ◌++◌, length, take, slice_index, true, false, if◌then◌else◌, refl, sym, ◌∙◌, ap, subst, arith, inl, inr, ◌⊎◌, nat_cmp, nat_eq, add-suc, add-zero, get_or, Vec}
+use Rattle.std.specs.Cmp.Lexicographic.{pointwise, slice_cmp}
 use Rattle.std.specs.Cmp.{nat_cmp_is}
 use Rattle.std.specs.Ordering.{ordering_then}
 use Rattle.std.specs.declared.cmp.Ordering.TheVariants.{Less, Equal, Greater}
 use Rattle.std.proofs.lemmas.Bool.{cases_eq, cases_lt, ne_eqb, eq-eqb, false_from_ne_true, or_right, true≢false}
-use Rattle.dpe_base.specs.Sets.{member, Meets, inter, members, list_order}
+use Rattle.dpe_base.specs.Sets.{member, Disjoint, Meets, inter, members, list_order}
 use Rattle.std.specs.declared.alloc.Global.{Global}
 use Rattle.std.proofs.Math.ListN.{get_or-append}
 use Rattle.std.proofs.lemmas.List.{get_or_push}
-use Rattle.dpe_base.proofs.SetLaws.{disjoint_by_inter, meets_by_inter}
+use Rattle.std.proofs.lemmas.Slice.Eq.{bytes_eq-Decides}
+use Rattle.dpe_base.proofs.SetLaws.{disjoint_by_inter}
+use Rattle.dpe_base.proofs.SizeLaws.{meets_by_inter, meets_true}
 use Rattle.dpe_base.proofs.ListOrder.{order_same}
-use Rattle.skip_vector.proofs.PrefixLaws.{HasIn, hasin_from, hasin_meets, up_to_here, up_to_later}
-use Rattle.skip_vector.specs.Skips.{first_relations, up_to, blocking_prefix, is_free, IsPart, IsAfter, same_list, has_blocking_prefix, is_probed, probes, NoneFree, IsFirstFree, IsColumn, IsProbed}
+use Rattle.skip_vector.proofs.PrefixLaws.{HasIn, hasin_meets, up_to_here, up_to_later}
+use Rattle.skip_vector.specs.Skips.{first_relations, up_to, blocking_prefix, is_free, IsPart, IsAfter, has_blocking_prefix, is_probed, probes, NoneFree, IsFirstFree, IsColumn, IsProbed}
 
 -- ---- lists
 
@@ -82,28 +84,12 @@ take-between (suc p) (r ∷ rs) (s ∷ ss) (t ∷ ts) a b e =
 
 -- ---- tests
 
-same_list-true : (as' bs : List ℕ) → same_list as' bs ≡ true → as' ≡ bs
-unfolding same_list
-same_list-true [] [] h = refl
-same_list-true [] (b ∷ bs) h = cc
-same_list-true (a ∷ as') [] h = cc
-same_list-true (a ∷ as') (b ∷ bs) h =
-    elim (cases_eq a b) [
-      | inl e ↦ let t : same_list as' bs ≡ true = rw (eq-eqb a b e) at h in let k : as' ≡ bs = same_list-true as' bs t in cc
-      | inr ne ↦ let f : false ≡ true = rw (ne_eqb a b ne) at h in cc
-    ]
-
-same_list-self : (as' : List ℕ) → same_list as' as' ≡ true
-unfolding same_list
-same_list-self [] = refl
-same_list-self (a ∷ as') = rw (eq-eqb a a refl) (same_list-self as')
-
 -- no place before has the prefix
 pub blocking_new : (part : List ℕ) (x : ℕ) (p : List ℕ) (from n : ℕ) → ((m : ℕ) → m < n → blocking_prefix x (slice_index part (from + m)) ≢ p) → has_blocking_prefix part x p from n ≡ false
 unfolding has_blocking_prefix
 blocking_new part x p from zero h = refl
 blocking_new part x p from (suc n) h =
-    rw (blocking_new part x p from n (λ m l. h m (omega arith))) (false_from_ne_true (same_list (blocking_prefix x (slice_index part (from + n))) p) (λ t. h n (omega arith) (same_list-true _ p t)))
+    rw (blocking_new part x p from n (λ m l. h m (omega arith))) (false_from_ne_true (pointwise nat_eq (blocking_prefix x (slice_index part (from + n))) p) (λ t. h n (omega arith) ((bytes_eq-Decides _ p).0 t)))
 
 -- a place before has it
 blocking_old : (part : List ℕ) (x : ℕ) (p : List ℕ) (from n m : ℕ) → m < n → blocking_prefix x (slice_index part (from + m)) ≡ p → has_blocking_prefix part x p from n ≡ true
@@ -115,7 +101,7 @@ blocking_old part x p from (suc n) m l e =
       | inr ge ↦
           let k : m ≡ n = omega arith in
           let f : blocking_prefix x (slice_index part (from + n)) ≡ p = ap (λ j. blocking_prefix x (slice_index part (from + j))) (sym k) ∙ e in
-          rw (f, same_list-self p) (or_right (has_blocking_prefix part x p from n) true refl)
+          rw (f, (bytes_eq-Decides p p).1 refl) (or_right (has_blocking_prefix part x p from n) true refl)
     ]
 
 pub probed_first : (part : List ℕ) (from x n : ℕ) → ((m : ℕ) → m < n → blocking_prefix x (slice_index part (from + m)) ≢ blocking_prefix x (slice_index part (from + n))) → is_probed part from x n ≡ true
@@ -123,20 +109,27 @@ unfolding is_probed
 probed_first part from x n h =
     rw (blocking_new part x (blocking_prefix x (slice_index part (from + n))) from n h) (or_right (is_free x (slice_index part (from + n))) true refl)
 
-pub probed_free : (part : List ℕ) (from x n : ℕ) → inter (slice_index part (from + n)) x ≡ 0 → is_probed part from x n ≡ true
-unfolding is_probed
-probed_free part from x n h = rw (eq-eqb _ _ h) refl
+pub free_or_meets : (s x : ℕ) → Disjoint s x ⊎ Meets s x
+free_or_meets s x =
+    elim (cases_eq (inter s x) 0) [ inl e ↦ inl ((disjoint_by_inter s x).0 e) | inr ne ↦ inr ((meets_by_inter s x).0 ne) ]
 
-probed_not : (part : List ℕ) (from x n m : ℕ) → m < n → inter (slice_index part (from + n)) x ≢ 0 → blocking_prefix x (slice_index part (from + m)) ≡ blocking_prefix x (slice_index part (from + n)) → is_probed part from x n ≡ false
+pub free_true : (s x : ℕ) → Disjoint s x → nat_eq (inter s x) 0 ≡ true
+free_true s x d = eq-eqb _ _ ((disjoint_by_inter s x).1 d)
+
+pub probed_free : (part : List ℕ) (from x n : ℕ) → Disjoint (slice_index part (from + n)) x → is_probed part from x n ≡ true
 unfolding is_probed
-probed_not part from x n m l ne e =
-    rw (ne_eqb _ _ ne, blocking_old part x (blocking_prefix x (slice_index part (from + n))) from n m l e) refl
+probed_free part from x n d = rw (free_true _ x d) refl
+
+probed_not : (part : List ℕ) (from x n m : ℕ) → m < n → Meets (slice_index part (from + n)) x → blocking_prefix x (slice_index part (from + m)) ≡ blocking_prefix x (slice_index part (from + n)) → is_probed part from x n ≡ false
+unfolding is_probed
+probed_not part from x n m l t e =
+    rw ((meets_true _ x).1 t, blocking_old part x (blocking_prefix x (slice_index part (from + n))) from n m l e) refl
 
 pub probed_iff : (part : List ℕ) (from x n : ℕ) → IsTrue (is_probed part from x n) ↔ IsProbed part from x n
 probed_iff part from x n = (
-  λ t. elim (cases_eq (inter (slice_index part (from + n)) x) 0) [
+  λ t. elim (free_or_meets (slice_index part (from + n)) x) [
     | inl free ↦ inl free
-    | inr ne ↦ inr (λ m l e. true≢false (sym t ∙ probed_not part from x n m l ne e))
+    | inr met ↦ inr (λ m l e. true≢false (sym t ∙ probed_not part from x n m l met e))
   ],
   λ p. elim p [ inl free ↦ probed_free part from x n free | inr first ↦ probed_first part from x n first ],
 )
@@ -152,7 +145,7 @@ unfolding probes
 probes-same part from x n h = rw h (omega arith)
 
 -- the m places after n, all with the blocking prefix of n
-pub probes-over : (part : List ℕ) (from x n m : ℕ) → is_probed part from x n ≡ true → ((j : ℕ) → n < j → j ≤ n + m → (inter (slice_index part (from + j)) x ≢ 0) × (blocking_prefix x (slice_index part (from + j)) ≡ blocking_prefix x (slice_index part (from + n)))) → probes part from x (suc (n + m)) ≡ probes part from x n + 1
+pub probes-over : (part : List ℕ) (from x n m : ℕ) → is_probed part from x n ≡ true → ((j : ℕ) → n < j → j ≤ n + m → Meets (slice_index part (from + j)) x × (blocking_prefix x (slice_index part (from + j)) ≡ blocking_prefix x (slice_index part (from + n)))) → probes part from x (suc (n + m)) ≡ probes part from x n + 1
 probes-over part from x n zero h k = rw add-zero (probes-more part from x n h)
 probes-over part from x n (suc m) h k =
     rw add-suc
@@ -308,12 +301,12 @@ scan_none part from x place count s j a b =
     let e : from + (j - from) ≡ j = omega arith in
     hasin_meets (slice_index part j) x (subst (λ k. HasIn x (members (slice_index part k))) e (s.scanned.blocked (j - from) (omega (arith, s.place_is))))
 
-pub scan_found : (part : List ℕ) (from x place count entry : ℕ) → IsScan part from x place count → place < length part → entry ≡ slice_index part place → inter entry x ≡ 0 → IsFirstFree part x from place entry × (count + 1 ≡ probes part from x (place + 1 - from))
+pub scan_found : (part : List ℕ) (from x place count entry : ℕ) → IsScan part from x place count → place < length part → entry ≡ slice_index part place → Disjoint entry x → IsFirstFree part x from place entry × (count + 1 ≡ probes part from x (place + 1 - from))
 scan_found part from x place count entry s here eis free =
     let n : ℕ = s.offset in
     let e : place ≡ from + n = s.place_is in
     let k : place + 1 - from ≡ suc n = omega (arith, e) in
-    let none : inter (slice_index part (from + n)) x ≡ 0 = ap (λ j. inter j x) (ap (slice_index part) (sym e) ∙ sym eis) ∙ free in (
+    let none : Disjoint (slice_index part (from + n)) x = subst (λ (s : ℕ). Disjoint s x) (eis ∙ ap (slice_index part) e) free in (
       record { from_on = omega (arith, e); within = here; entry_is = eis; free = free; first = scan_none part from x place count s },
       ap (λ j. j + 1) s.scanned.counted ∙ sym (probes-more part from x n (probed_free part from x n none)) ∙ ap (probes part from x) (sym k),
     )
@@ -332,11 +325,8 @@ apart_in_part part i ok l e =
     let same : Equal ≡ list_order (slice_index part i) (slice_index part (i + 1)) = order_same (slice_index part i) ∙ ap (list_order (slice_index part i)) e in
     cc
 
-pub not_meets : (s x : ℕ) → (Meets s x → ⊥) → inter s x ≡ 0
-not_meets s x h = (disjoint_by_inter s x).1 (λ r a b. h (r, a, b))
-
-pub meets_has : (s x : ℕ) → s < 2 ^ 32 → Meets s x → HasIn x (members s)
-meets_has s x l m = hasin_from s x l ((meets_by_inter s x l).1 m)
+pub not_meets : (s x : ℕ) → (Meets s x → ⊥) → Disjoint s x
+not_meets s x h r a b = h (r, a, b)
 
 pub columns_more : (part : List ℕ) (columns : List (Vec ℕ Global)) (v : Vec ℕ Global) (n : ℕ) → length columns ≡ n → ((p : ℕ) (d : Vec ℕ Global) → p < n → IsColumn part (p + 1) (get_or columns p d).items) → IsColumn part (n + 1) v.items → (p : ℕ) (d : Vec ℕ Global) → p < n + 1 → IsColumn part (p + 1) (get_or (columns ++ v ∷ []) p d).items
 columns_more part columns v n e all new p d l =

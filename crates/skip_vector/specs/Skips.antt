@@ -1,8 +1,9 @@
 -- Prefixes of the ascending lists of sets, and the places of a part that a scan by skips looks at.
-use Rattle.std.specs.Prelude.{◌≡◌, ◌≢◌, ◌↔◌, ◌⊎◌, IsTrue, ℕ, zero, suc, ◌+◌, ◌-◌, ◌<◌, ◌≤◌, Bool, true, false, ◌&&◌, ◌||◌, ◌==◌, if◌then◌else◌, List, [], ◌∷◌, length, take, slice_index, get_or, Vec}
+use Rattle.std.specs.Prelude.{◌≡◌, ◌≢◌, ◌↔◌, ◌⊎◌, IsTrue, ℕ, zero, suc, ◌+◌, ◌-◌, ◌<◌, ◌≤◌, Bool, true, false, not, ◌||◌, ◌==◌, nat_eq, if◌then◌else◌, List, [], ◌∷◌, length, take, slice_index, get_or, Vec}
+use Rattle.std.specs.Cmp.Lexicographic.{pointwise}
 use Rattle.std.specs.declared.alloc.Global.{Global}
 use Rattle.std.specs.declared.cmp.Ordering.TheVariants.{Less}
-use Rattle.dpe_base.specs.Sets.{member, inter, size, members, list_order}
+use Rattle.dpe_base.specs.Sets.{Disjoint, Meets, member, meets, size, members, list_order}
 
 -- the first p relations of a set
 abbrev pub first_relations : ℕ → ℕ → List ℕ
@@ -17,9 +18,9 @@ up_to x (r ∷ rs) = if member x r == 1 then r ∷ [] else r ∷ up_to x rs
 unfoldable pub blocking_prefix : ℕ → ℕ → List ℕ
 blocking_prefix x s = up_to x (members s)
 
--- no relation is in both
+-- no relation of s is in x
 abbrev pub is_free : ℕ → ℕ → Bool
-is_free x s = inter s x == 0
+is_free x s = not (meets s x)
 
 -- a part: sets of one size of at least 1, ascending in list order
 pub record IsPart (part : List ℕ) : Type 0 where
@@ -34,17 +35,10 @@ pub record IsAfter (part : List ℕ) (i p a : ℕ) : Type 0 where
   pub same : (j : ℕ) → i < j → j < a → first_relations p (slice_index part j) ≡ first_relations p (slice_index part i)
   pub other : a < length part → first_relations p (slice_index part a) ≢ first_relations p (slice_index part i)
 
--- whether two lists are the same
-unfoldable pub same_list : List ℕ → List ℕ → Bool
-same_list [] [] = true
-same_list [] (b ∷ bs) = false
-same_list (a ∷ as') [] = false
-same_list (a ∷ as') (b ∷ bs) = a == b && same_list as' bs
-
 -- whether one of the n places from `from` on has the blocking prefix p
 unfoldable pub has_blocking_prefix : List ℕ → ℕ → List ℕ → ℕ → ℕ → Bool
 has_blocking_prefix part x p from zero = false
-has_blocking_prefix part x p from (suc n) = has_blocking_prefix part x p from n || same_list (blocking_prefix x (slice_index part (from + n))) p
+has_blocking_prefix part x p from (suc n) = has_blocking_prefix part x p from n || pointwise nat_eq (blocking_prefix x (slice_index part (from + n))) p
 
 -- whether the place is probed: its entry is free, or the first one from `from` on with its blocking prefix
 unfoldable pub is_probed : List ℕ → ℕ → ℕ → ℕ → Bool
@@ -70,14 +64,14 @@ pub record IsSkipPart (part : List ℕ) (columns : List (Vec ℕ Global)) : Type
 
 -- no entry from `from` on and before `upto` is disjoint from x
 abbrev pub NoneFree : List ℕ → ℕ → ℕ → ℕ → Type 0
-NoneFree part x from upto = (j : ℕ) → from ≤ j → j < upto → inter (slice_index part j) x ≢ 0
+NoneFree part x from upto = (j : ℕ) → from ≤ j → j < upto → Meets (slice_index part j) x
 
 -- the first entry from `from` on that is disjoint from x
 pub record IsFirstFree (part : List ℕ) (x from place entry : ℕ) : Type 0 where
   pub from_on : from ≤ place
   pub within : place < length part
   pub entry_is : entry ≡ slice_index part place
-  pub free : inter entry x ≡ 0
+  pub free : Disjoint entry x
   pub first : NoneFree part x from place
 
 -- how many of the entries from `from` on are probed
@@ -87,7 +81,7 @@ probes_from part from x = probes part from x (length part - from)
 -- the entry n places after `from` is disjoint from x, or none before it has its blocking prefix
 abbrev pub IsProbed : List ℕ → ℕ → ℕ → ℕ → Type 0
 IsProbed part from x n =
-    (inter (slice_index part (from + n)) x ≡ 0)
+    Disjoint (slice_index part (from + n)) x
     ⊎ ((m : ℕ) → m < n → blocking_prefix x (slice_index part (from + m)) ≢ blocking_prefix x (slice_index part (from + n)))
 
 -- the places that are counted as probed are those that are probed

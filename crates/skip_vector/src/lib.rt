@@ -1,4 +1,4 @@
-//! Connected sets of one size with skip vectors: a scan for a disjoint set leaps over all entries that share a
+//! Sets of one size with skip vectors: a scan for a disjoint set leaps over all entries that share a
 //! blocking prefix, and every entry that it looks at is counted.
 #![tactic(auto)]
 

@@ -1,5 +1,5 @@
 use Rattle.std.proofs.Common.{◌≡◌, ◌-◌, length, drop}
-use Rattle.enum_dpsize.specs.Dpsize.{rows_from}
+use Rattle.enum_dpsize.specs.DpsizeLeft.{rows_from}
 use Rattle.enum_dpsize.proofs.dpsize.next_in_rows.Given as goal
 
 abbrev pub invariant-rows : goal.invariant-rows

@@ -1,6 +1,6 @@
 use Rattle.std.proofs.Common.{◌≡◌, ◌+◌, ◌-◌, length, drop}
-use Rattle.enum_dpsize.specs.Dpsize.{rows_from}
-use Rattle.enum_dpsize.specs.Dpsva.{rows_probes_from}
+use Rattle.enum_dpsize.specs.DpsizeLeft.{rows_from}
+use Rattle.enum_dpsize.specs.DpsvaLeft.{rows_probes_from}
 use Rattle.enum_dpsize.proofs.dpsva.next_in_rows.Given as goal
 
 abbrev pub invariant-rows : goal.invariant-rows

@@ -1,6 +1,7 @@
 use Rattle.std.proofs.Common.{◌-◌, ◌++◌, refl, arith, ap}
 use Rattle.enum_dpccp.specs.Growth.{growth_left}
-use Rattle.enum_dpccp.specs.Sides.{first_left, first_sides_below}
+use Rattle.enum_dpccp.specs.Dpccp.{first_sides_below}
+use Rattle.enum_dpccp.specs.Sides.{first_left}
 use Rattle.enum_dpccp.proofs.SideSteps.{first_end, first_next, start_known, start_some, start_below, head_connected, rest_connected, none_connected}
 use Rattle.enum_dpccp.proofs.sides.FirstSides.next.Goals as goal
 

@@ -1,7 +1,7 @@
 use Rattle.std.proofs.Common.{◌≡◌, ◌∙◌, ◌-◌, arith}
 use Rattle.pair_stream.specs.Parts.{part}
 use Rattle.pair_stream.specs.Streams.{over_from_empty}
-use Rattle.enum_dpsize.specs.Dpsize.{IsDpsizeState, dpsize_left}
+use Rattle.enum_dpsize.specs.DpsizeLeft.{IsDpsizeState, dpsize_left}
 use Rattle.enum_dpsize.proofs.PartLists.{part_connected}
 use Rattle.enum_dpsize.proofs.DpsizeSteps.{first_known, second_known, first_list, second_list, one_list, taken_here, over_here, left_end, step_sizes}
 use Rattle.enum_dpsize.proofs.dpsize.DpSizePairStream.next.Goals as goal

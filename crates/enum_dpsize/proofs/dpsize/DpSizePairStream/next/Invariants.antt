@@ -1,5 +1,5 @@
 use Rattle.std.proofs.Common.{◌≡◌, ◌+◌, ◌-◌, ◌*◌}
-use Rattle.enum_dpsize.specs.Dpsize.{IsDpsizeState, dpsize_left}
+use Rattle.enum_dpsize.specs.DpsizeLeft.{IsDpsizeState, dpsize_left}
 use Rattle.enum_dpsize.proofs.dpsize.DpSizePairStream.next.Given as goal
 
 abbrev pub invariant-sizes : goal.invariant-sizes

@@ -2,8 +2,8 @@ use Rattle.std.proofs.Common.{◌≡◌, ◌≤◌, ◌∙◌, ◌+◌, ◌-◌,
 use Rattle.std.proofs.lemmas.Bool.{and_from, eq-eqb}
 use Rattle.pair_stream.specs.Parts.{part}
 use Rattle.pair_stream.specs.Streams.{is_over, over_from_empty}
-use Rattle.enum_dpsize.specs.Dpsize.{IsDpsizeState, dpsize_left}
-use Rattle.enum_dpsize.specs.Dpsva.{probes_left}
+use Rattle.enum_dpsize.specs.DpsizeLeft.{IsDpsizeState, dpsize_left}
+use Rattle.enum_dpsize.specs.DpsvaLeft.{probes_left}
 use Rattle.enum_dpsize.proofs.PartLists.{part_connected}
 use Rattle.enum_dpsize.proofs.DpsizeSteps.{first_known, second_known, first_list, second_list, one_list, taken_here, over_here, left_end, step_sizes}
 use Rattle.enum_dpsize.proofs.ProbeSteps.{probes_here, rows_within, probes_end, probes_next}

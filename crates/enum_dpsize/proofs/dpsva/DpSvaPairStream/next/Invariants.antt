@@ -1,6 +1,6 @@
 use Rattle.std.proofs.Common.{◌≡◌, ◌+◌, ◌-◌, ◌*◌}
-use Rattle.enum_dpsize.specs.Dpsize.{dpsize_left}
-use Rattle.enum_dpsize.specs.Dpsva.{IsDpsvaState, probes_left}
+use Rattle.enum_dpsize.specs.DpsizeLeft.{dpsize_left}
+use Rattle.enum_dpsize.specs.DpsvaLeft.{IsDpsvaState, probes_left}
 use Rattle.enum_dpsize.proofs.dpsva.DpSvaPairStream.next.Given as goal
 
 abbrev pub invariant-sizes : goal.invariant-sizes

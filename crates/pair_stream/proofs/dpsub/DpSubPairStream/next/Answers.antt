@@ -1,7 +1,7 @@
 use Rattle.std.proofs.Common.{◌≡◌, ◌≤◌, ◌<◌, ◌+◌, ◌∙◌, sym, ap, arith, ℕ}
 use Rattle.std.proofs.lemmas.Bool.{iff_false}
 use Rattle.dpe_base.specs.Sets.{full}
-use Rattle.pair_stream.specs.Dpsub.{dpsub_left}
+use Rattle.pair_stream.specs.DpsubLeft.{dpsub_left}
 use Rattle.pair_stream.specs.Streams.{over_from_empty}
 use Rattle.pair_stream.proofs.SubsetLaws.{within_full, within_most}
 use Rattle.pair_stream.proofs.DpsubSteps.{fewer_subsets, split_taken, none_left, left_same, entered, passed, within_none, within_all}

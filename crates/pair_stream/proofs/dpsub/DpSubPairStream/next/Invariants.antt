@@ -1,7 +1,7 @@
 use Rattle.std.proofs.Common.{◌≡◌, ◌+◌, ◌-◌, ◌*◌, ◌^◌, ◌≤◌}
 use Rattle.dpe_base.specs.Sets.{Within, full}
 use Rattle.join_graph.specs.Graphs.{IsGraph}
-use Rattle.pair_stream.specs.Dpsub.{dpsub_left}
+use Rattle.pair_stream.specs.DpsubLeft.{dpsub_left}
 use Rattle.pair_stream.proofs.dpsub.DpSubPairStream.next.Given as goal
 
 abbrev pub invariant-scan : goal.invariant-scan
