@@ -31,8 +31,12 @@ pub record IsRun (kind : ℕ) (e : EnginePlan) (row : List ℕ) (tickets count f
   pub buffers : filled ≡ length (runs e.buffer e.pairs)
   pub rounds : worked ≡ rounds e.buffer e.pairs
 
+-- n is how many csg-cmp-pairs the query has
+abbrev pub IsPairCount : JoinQuery → ℕ → Type 0
+IsPairCount q n = (all : List Pair) × Complete (graph_of q) all × (n ≡ length all)
+
 -- the plan over all relations, how many pairs the query has, and the statistics that the settings ask for
 pub record IsPlanOf (kind : ℕ) (settings : Settings) (q : JoinQuery) (p : Planned) : Type 0 where
   pub plan : Plan kind q (full (relations q)) (tree_of p.tree)
-  pub pairs : (all : List Pair) × Complete (graph_of q) all × (p.pairs ≡ length all)
+  pub pairs : IsPairCount q p.pairs
   pub stats : p.stats ≡ stats_of settings (graph_of q)
