@@ -15,10 +15,10 @@ use Rattle.pair_stream.specs.Orders.{Complete}
 use Rattle.reorder_buffer.specs.Groups.{runs, rounds}
 use Rattle.plan_report.specs.declared.entry.Stats.{Stats}
 use Rattle.plan_report.specs.Words.{HasBestWords}
-use Rattle.dpe_engine.specs.Engines.{EnginePlan}
+use Rattle.dpe_engine.specs.Engines.{AreLeastWords, EnginePlan}
 use Rattle.dpe_words.specs.declared.choices.Settings.{Settings}
 use Rattle.dpe_top.specs.Enumerations.{pairs_of, total_probes, stats_with}
-use Rattle.dpe_top.specs.Plans.{AreLeastWords, IsPlanOf, IsRun, engine_of}
+use Rattle.dpe_top.specs.Plans.{IsPlanOf, IsRun, engine_of}
 
 least_words_best : (kind : ℕ) (q : JoinQuery) (pairs : List Pair) (row : List ℕ) → IsQuery q → Complete (graph_of q) pairs
     → AreLeastWords kind q pairs row → HasBestWords kind q row (full (relations q))

@@ -46,7 +46,7 @@ one_planned settings other name named x y alike sound a b =
     let all = full (relations named.query) in
     let plan = subst (λ (k : ℕ). Plan k named.query all y.tree) (sym kinds) b.plan in
     let trees : x.tree ≡ y.tree = plan_same (kind_of settings.model) named.query all x.tree y.tree sound.valid a.plan plan in
-    let numbers : x.pairs ≡ y.pairs = one_number (graph_of named.query) x.pairs y.pairs a.pairs b.pairs in
+    let numbers : x.pairs ≡ y.pairs = one_number named.query x.pairs y.pairs a.pairs b.pairs in
     let stats : x.stats ≡ y.stats = a.stats ∙ alike.stats (graph_of named.query) ∙ sym b.stats in
     a.rest ∙ same_described (kind_of settings.model) (kind_of other.model) name named x.tree y.tree x.pairs y.pairs x.stats y.stats kinds trees numbers stats
     ∙ sym b.rest

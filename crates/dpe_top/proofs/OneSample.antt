@@ -22,6 +22,7 @@ use Rattle.workload_gen.specs.Values.{workload_of}
 use Rattle.query_json.specs.Sound.{IsEntrySound, IsPartSound}
 use Rattle.dpe_top.specs.declared.summary.Share.{Share}
 use Rattle.dpe_top.specs.Laws.{OneCount, OneSample}
+use Rattle.dpe_top.specs.Plans.{IsPairCount}
 use Rattle.query_json.proofs.SoundEntries.{sound_entries}
 use Rattle.dpe_top.specs.Summary.{IsShare, AreShares, IsSummary, planned_queries, totals_of, summary_line}
 
@@ -59,14 +60,13 @@ same_share : (x y : Share) → x.pairs ≡ y.pairs → x.cost ≡ y.cost → x �
 same_share x y e f = ap (λ (k : ℕ). record { pairs = k; cost = x.cost }) e ∙ ap (λ (k : ℕ). record { pairs = y.pairs; cost = k }) f
 
 -- how many pairs a query has, said twice
-pub one_number : (g : JoinGraph) (m n : ℕ) → ((all : List Pair) × Complete g all × (m ≡ length all)) → ((all : List Pair) × Complete g all × (n ≡ length all))
-    → m ≡ n
-one_number g m n a b = a.2 ∙ one_count g a.0 b.0 a.1 b.1 ∙ sym b.2
+pub one_number : (q : JoinQuery) (m n : ℕ) → IsPairCount q m → IsPairCount q n → m ≡ n
+one_number q m n a b = a.2 ∙ one_count (graph_of q) a.0 b.0 a.1 b.1 ∙ sym b.2
 
 one_share : (kind : ℕ) (q : JoinQuery) (x y : Share) → IsQuery q → IsShare kind q x → IsShare kind q y → x ≡ y
 one_share kind q x y ok a b =
     same_share x y
-    (one_number (graph_of q) x.pairs y.pairs a.pairs b.pairs)
+    (one_number q x.pairs y.pairs a.pairs b.pairs)
     (a.plan.2 ∙ ap (cost kind q) (plan_same kind q (full (relations q)) a.plan.0 b.plan.0 ok a.plan.1 b.plan.1) ∙ sym b.plan.2)
 
 pub ap_cons : {A : Type 0} (x y : A) (xs ys : List A) → x ≡ y → xs ≡ ys → x ∷ xs ≡ y ∷ ys

@@ -1,14 +1,12 @@
 -- The report of a workload: one entry after the other, in the workload's order.
-use Rattle.std.specs.Prelude.{◌≡◌, ℕ, List, [], ◌∷◌, length, Bool, true, false}
+use Rattle.std.specs.Prelude.{◌≡◌, ℕ, List, [], ◌∷◌, Bool, true, false}
 use Rattle.std.specs.List.{list_any}
-use Rattle.dpe_base.specs.declared.pair.Pair.{Pair}
 use Rattle.dpe_base.specs.Queries.{relations}
 use Rattle.dpe_base.specs.Sets.{full}
 use Rattle.cost_model.specs.declared.model.ModelKind.{ModelKind}
 use Rattle.cost_model.specs.declared.model.ModelKind.TheVariants.{Ops, Cout}
 use Rattle.join_graph.specs.Graphs.{graph_of}
 use Rattle.join_tree.specs.Trees.{Plan}
-use Rattle.pair_stream.specs.Orders.{Complete}
 use Rattle.query_json.specs.declared.entry.Entry.{Entry}
 use Rattle.query_json.specs.declared.entry.Named.{Named}
 use Rattle.query_json.specs.declared.entry.Part.{Part}
@@ -17,6 +15,7 @@ use Rattle.plan_report.specs.Entries.{PlannedQuery, ReportEntry, planned, refuse
 use Rattle.plan_report.specs.Reports.{report_bytes}
 use Rattle.dpe_words.specs.declared.choices.Settings.{Settings}
 use Rattle.dpe_top.specs.Enumerations.{stats_of}
+use Rattle.dpe_top.specs.Plans.{IsPairCount}
 
 -- the number of the model in costs and words
 abbrev pub kind_of : ModelKind → ℕ
@@ -27,7 +26,7 @@ kind_of Cout = 1
 -- where they are asked for
 pub record IsPlanned (settings : Settings) (name : List ℕ) (named : Named) (said : PlannedQuery) : Type 0 where
   pub plan : Plan (kind_of settings.model) named.query (full (relations named.query)) said.tree
-  pub pairs : (all : List Pair) × Complete (graph_of named.query) all × (said.pairs ≡ length all)
+  pub pairs : IsPairCount named.query said.pairs
   pub stats : said.stats ≡ stats_of settings (graph_of named.query)
   pub rest : said ≡ record said { name = name; aliases = named.aliases; kind = kind_of settings.model; query = named.query }
 

@@ -1,12 +1,9 @@
 -- The summary of a sample workload: sums over its planned queries.
 use Rattle.std.specs.Prelude.{◌≡◌, ℕ, List, [], ◌∷◌, ◌++◌, length, Option, Some, None, Ok, codes, decimal}
 use Rattle.std.specs.List.{filter_map, sum_by}
-use Rattle.dpe_base.specs.declared.pair.Pair.{Pair}
 use Rattle.dpe_base.specs.Queries.{JoinQuery, relations}
 use Rattle.dpe_base.specs.Sets.{full}
-use Rattle.join_graph.specs.Graphs.{graph_of}
 use Rattle.join_tree.specs.Trees.{JoinTree, Plan, cost}
-use Rattle.pair_stream.specs.Orders.{Complete}
 use Rattle.query_json.specs.declared.entry.Entry.{Entry}
 use Rattle.query_json.specs.declared.entry.Part.{Part}
 use Rattle.query_json.specs.declared.entry.Part.TheVariants.{Accepted, Refused}
@@ -15,6 +12,7 @@ use Rattle.plan_report.specs.Texts.{newline}
 use Rattle.workload_gen.specs.Values.{workload_of}
 use Rattle.dpe_top.specs.declared.summary.Share.{Share}
 use Rattle.dpe_top.specs.declared.summary.Totals.{Totals}
+use Rattle.dpe_top.specs.Plans.{IsPairCount}
 
 abbrev pub query_in : Part → Option JoinQuery
 query_in (Accepted named) = Some named.query
@@ -26,7 +24,7 @@ planned_queries entries = filter_map (λ e. query_in e.part) entries
 
 -- how many csg-cmp-pairs the query has, and what its plan costs
 pub record IsShare (kind : ℕ) (q : JoinQuery) (share : Share) : Type 0 where
-  pub pairs : (all : List Pair) × Complete (graph_of q) all × (share.pairs ≡ length all)
+  pub pairs : IsPairCount q share.pairs
   pub plan : (tree : JoinTree) × Plan kind q (full (relations q)) tree × (share.cost ≡ cost kind q tree)
 
 -- the same of each query, one by one

@@ -14,7 +14,7 @@ mod tests;
 
 pub use call::dpe;
 pub use dpe_engine::{Gate, OpenGate};
-pub use dpe_words::usage_line;
+pub use dpe_words::{Mode, Settings, WordFault, settings, usage_line};
 pub use status::Status;
 
 /// The most bytes of a workload.

@@ -80,17 +80,15 @@ pub record AreInRange (s : Settings) : Type 0 where
   pub buffer : (1 ≤ s.buffer) × (s.buffer ≤ 65536)
   pub workers : (1 ≤ s.workers) × (s.workers ≤ 64)
 
--- the answer is what the words say, or Usage where they say nothing; want of memory is free
-abbrev pub IsSaid : {X : Type 0} → Result X WordFault → Option X → Type 0
-IsSaid (Ok x) said = said ≡ Some x
-IsSaid (Err Usage) said = said ≡ None
-IsSaid (Err NoMemory) said = Unit {0}
-
--- the same of an answer that is seen by view
+-- the answer, seen by view, is what the words say, or Usage where they say nothing; want of memory is free
 abbrev pub IsSaidBy : {X Y : Type 0} → (X → Y) → Result X WordFault → Option Y → Type 0
 IsSaidBy view (Ok x) said = said ≡ Some (view x)
 IsSaidBy view (Err Usage) said = said ≡ None
 IsSaidBy view (Err NoMemory) said = Unit {0}
+
+-- the same of an answer that is seen as it is
+abbrev pub IsSaid : {X : Type 0} → Result X WordFault → Option X → Type 0
+IsSaid = IsSaidBy (λ x. x)
 
 -- ---- how the program holds words and values
 

@@ -1,7 +1,8 @@
 -- The line that is written where the words are no command line.
-use Rattle.std.specs.Prelude.{ℕ, List, [], ◌∷◌, ◌++◌, codes}
+use Rattle.std.specs.Prelude.{ℕ, List, ◌++◌, codes}
+use Rattle.plan_report.specs.Texts.{newline}
 
 unfoldable pub usage_line : List ℕ
 usage_line =
     codes "usage: dpe [--mode M] [--enumerator E] [--buffer N] [--workers N] [--model M] [--format F] [--stats S] [--number N]"
-    ++ 10 ∷ []
+    ++ newline

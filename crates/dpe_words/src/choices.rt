@@ -6,17 +6,27 @@ use dpe_base::Kind;
 use plan_report::Format;
 use std::alloc::{AllocError, AllocFailed, Global};
 
-/// What the program is asked to do. No word names a mode after `Sample` yet.
+/// What the program is asked to do. The modes after `Sample` aren't built yet: no word names them, so that `--mode certify`
+/// is no command line.
 #[derive(Clone, Copy, Debug, PartialEq, Eq)]
 pub enum Mode {
+    /// A report of the workload that is read.
     Plan,
+    /// The sums of a workload made from a number.
     Sample,
+    /// Rewrites a workload.
     Migrate,
+    /// Plans with certificates of optimality.
     Certify,
+    /// Checks certificates.
     Check,
+    /// Trees in which a side of each join has at most two relations.
     Narrow,
+    /// Trees in which a side of each join is a relation.
     Zigzag,
+    /// Trees in which the right side of each join is a relation.
     Leftdeep,
+    /// Plans again after changed rows.
     Reopt,
 }
 

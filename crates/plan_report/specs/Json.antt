@@ -16,17 +16,17 @@ use Rattle.plan_report.specs.Texts.{newline}
 use Rattle.plan_report.specs.Names.{operator_name, enumerator_name}
 use Rattle.plan_report.specs.Entries.{PlannedQuery, ReportEntry, planned, refused}
 
-abbrev pub count : ℕ → Data
-count n = number (unsigned n)
+abbrev pub whole : ℕ → Data
+whole n = number (unsigned n)
 
 abbrev pub scan_data : List ℕ → ℕ → Data
 scan_data alias rows =
-    object (member (codes "alias") (string alias) (member (codes "op") (string (codes "scan")) (member (codes "rows") (count rows) no_members)))
+    object (member (codes "alias") (string alias) (member (codes "op") (string (codes "scan")) (member (codes "rows") (whole rows) no_members)))
 
 abbrev pub join_data : List ℕ → ℕ → ℕ → Data → Data → Data
 join_data operator rows cost left right =
-    object (member (codes "cost") (count cost) (member (codes "left") left (member (codes "op") (string operator)
-    (member (codes "right") right (member (codes "rows") (count rows) no_members)))))
+    object (member (codes "cost") (whole cost) (member (codes "left") left (member (codes "op") (string operator)
+    (member (codes "right") right (member (codes "rows") (whole rows) no_members)))))
 
 abbrev pub plan_data : ℕ → JoinQuery → List (List ℕ) → JoinTree → Data
 plan_data kind q aliases (leaf r) = scan_data (slice_index_or aliases r []) (rows q (single r))
@@ -35,8 +35,8 @@ plan_data kind q aliases (join op left right) =
 
 abbrev pub stats_data : Stats → Data
 stats_data s =
-    object (member (codes "buffer") (count s.buffer) (member (codes "buffers") (count s.buffers) (member (codes "enumerator") (string (enumerator_name s.kind))
-    (member (codes "probes") (count s.probes) (member (codes "rounds") (count s.rounds) no_members)))))
+    object (member (codes "buffer") (whole s.buffer) (member (codes "buffers") (whole s.buffers) (member (codes "enumerator") (string (enumerator_name s.kind))
+    (member (codes "probes") (whole s.probes) (member (codes "rounds") (whole s.rounds) no_members)))))
 
 abbrev pub stats_member : Option Stats → Members
 stats_member (Some s) = member (codes "stats") (stats_data s) no_members
@@ -45,8 +45,8 @@ stats_member None = no_members
 -- the members of every accepted entry, and then the others
 abbrev pub accepted_data : List ℕ → ℕ → ℕ → ℕ → Data → Members → Data
 accepted_data name cost rows pairs plan others =
-    object (member (codes "cost") (count cost) (member (codes "name") (string name) (member (codes "pairs") (count pairs)
-    (member (codes "plan") plan (member (codes "rows") (count rows) others)))))
+    object (member (codes "cost") (whole cost) (member (codes "name") (string name) (member (codes "pairs") (whole pairs)
+    (member (codes "plan") plan (member (codes "rows") (whole rows) others)))))
 
 abbrev pub planned_data : PlannedQuery → Data
 planned_data e =
@@ -54,7 +54,7 @@ planned_data e =
 
 abbrev pub refused_data : List ℕ → QueryRefusal → Data
 refused_data name why =
-    object (member (codes "code") (count (refusal_code why)) (member (codes "name") (string name) (member (codes "refusal") (string (refusal_text why)) no_members)))
+    object (member (codes "code") (whole (refusal_code why)) (member (codes "name") (string name) (member (codes "refusal") (string (refusal_text why)) no_members)))
 
 abbrev pub entry_data : ReportEntry → Data
 entry_data (planned e) = planned_data e

@@ -38,6 +38,13 @@ impl<T> Items<T> {
         Items { items }
     }
 
+    /// The vector of the elements. It takes no memory.
+    pub fn into_vec(self) -> Vec<T>
+        ensures { result.items ≡ self }
+    {
+        self.items
+    }
+
     /// The elements.
     pub fn as_slice(&self) -> &[T]
         ensures { result.now ≡ self.now }

@@ -1,7 +1,7 @@
 //! Names and their numbers.
 ghost use Rattle.std.specs.Prelude.{◌≡◌, ℕ, List, map, position};
 ghost use Rattle.std.specs.Str.{bytes_eq};
-ghost use Rattle.query_json.specs.Names.{Numbers, distinct_names};
+ghost use Rattle.query_json.specs.Names.{GivesNames, distinct_names};
 
 use crate::label::copied;
 use dpe_base::Name;
@@ -48,7 +48,7 @@ impl<T: Drop> From<AllocFailed<T>> for Repeat {
 
 /// The names of the items, each at its item's number.
 pub fn distinct<'a, T: HasName>(alloc: Global, items: &'a [T]) -> Result<IndexSet<&'a str>, Repeat>
-    ensures { Numbers (λ s. map (λ k. k.now) s.keys) result (distinct_names T.label items.entry.now) }
+    ensures { GivesNames (λ s. map (λ k. k.now) s.keys) result (distinct_names T.label items.entry.now) }
 {
     let mut names = IndexSet::with_capacity(alloc, items.len())?;
     for item in items {

@@ -423,3 +423,15 @@ fn no_prefix_is_json(rt: HostRuntime) -> Result<(), Fail> {
     }
     Ok(())
 }
+
+#[test]
+fn a_vector_there_and_back(rt: HostRuntime) -> Result<(), Fail> {
+    let alloc = rt.alloc();
+    let bytes = EXAMPLE.as_bytes();
+    let items = Items::from_vec(bytes.to_vec(alloc)?);
+    assert_eq!(rt; items.len(), bytes.len());
+    assert_eq!(rt; items.as_slice(), bytes);
+    let back = items.into_vec();
+    assert_eq!(rt; back.as_slice(), bytes);
+    Ok(())
+}

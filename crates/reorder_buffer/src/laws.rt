@@ -1,3 +1,4 @@
+//! What holds of the groups of every list of pairs.
 ghost use Rattle.reorder_buffer.specs.Laws.{GroupsAreThePairs};
 
 /// Each pair stands in the group of its union's size, and in no other.
