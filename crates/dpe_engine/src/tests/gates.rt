@@ -29,7 +29,7 @@ impl Meeting {
         if own.swap(true, Ordering::SeqCst) {
             return;
         }
-        'rounds_done: for _ in 0..TURNS {
+        'turns: for _ in 0..TURNS {
             if other.load(Ordering::SeqCst) {
                 return;
             }
