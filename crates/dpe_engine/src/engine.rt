@@ -67,8 +67,8 @@ fn work_full_buffers<P: PairStream, M: CostModel, G: Gate, R: Threads + Sync>(
     gate: &G,
     progress: Progress<P, M>,
 ) -> Progress<P, M>
-    requires { IsRunning M.KIND shared.now.memo shared.now.cards shared.now.workers progress.full.room progress.pairs progress.buffers progress.rounds_done (P.left progress.stream) (P.ended progress.stream) progress.full progress.next progress.crew.items (vec_capacity progress.crew) progress.seat }
-    ensures running { IsRunning M.KIND shared.now.memo shared.now.cards shared.now.workers progress.full.room result.pairs result.buffers result.rounds_done (P.left result.stream) (P.ended result.stream) result.full result.next result.crew.items (vec_capacity result.crew) result.seat }
+    requires { IsRunning M.KIND shared.now.memo shared.now.cards shared.now.workers progress.full.room progress.pairs progress.buffers progress.rounds (P.left progress.stream) (P.ended progress.stream) progress.full progress.next progress.crew.items (vec_capacity progress.crew) progress.seat }
+    ensures running { IsRunning M.KIND shared.now.memo shared.now.cards shared.now.workers progress.full.room result.pairs result.buffers result.rounds (P.left result.stream) (P.ended result.stream) result.full result.next result.crew.items (vec_capacity result.crew) result.seat }
     ensures total { P.total result.stream ≡ P.total progress.stream }
     ensures short { length result.full.pairs < progress.full.room }
 {
@@ -85,7 +85,7 @@ struct Ended<P, M: CostModel> {
     seat: MemoSeat<M>,
     pairs: u64,
     buffers: u64,
-    rounds_done: u64,
+    rounds: u64,
 }
 
 // Works the last buffer, which is not full.
@@ -95,9 +95,9 @@ fn work_last_buffer<P: PairStream, M: CostModel, G: Gate, R: Threads + Sync>(
     gate: &G,
     progress: Progress<P, M>,
 ) -> Ended<P, M>
-    requires running { IsRunning M.KIND shared.now.memo shared.now.cards shared.now.workers progress.full.room progress.pairs progress.buffers progress.rounds_done (P.left progress.stream) (P.ended progress.stream) progress.full progress.next progress.crew.items (vec_capacity progress.crew) progress.seat }
+    requires running { IsRunning M.KIND shared.now.memo shared.now.cards shared.now.workers progress.full.room progress.pairs progress.buffers progress.rounds (P.left progress.stream) (P.ended progress.stream) progress.full progress.next progress.crew.items (vec_capacity progress.crew) progress.seat }
     requires short { length progress.full.pairs < progress.full.room }
-    ensures ended { HasEnded M.KIND shared.now.memo shared.now.cards shared.now.workers progress.full.room result.pairs result.buffers result.rounds_done (P.left result.stream) (P.ended result.stream) result.seat }
+    ensures ended { HasEnded M.KIND shared.now.memo shared.now.cards shared.now.workers progress.full.room result.pairs result.buffers result.rounds (P.left result.stream) (P.ended result.stream) result.seat }
     ensures total { P.total result.stream ≡ P.total progress.stream }
 {
     let Progress {
@@ -108,10 +108,10 @@ fn work_last_buffer<P: PairStream, M: CostModel, G: Gate, R: Threads + Sync>(
         mut seat,
         pairs,
         buffers,
-        rounds_done,
+        rounds,
     } = progress;
-    let rounds_done = work_groups(
-        rt, shared, gate, pairs, rounds_done, &mut full, &mut crew, &mut seat,
+    let rounds = work_groups(
+        rt, shared, gate, pairs, rounds, &mut full, &mut crew, &mut seat,
     );
     let count = full.len() as u64;
     Ended {
@@ -119,7 +119,7 @@ fn work_last_buffer<P: PairStream, M: CostModel, G: Gate, R: Threads + Sync>(
         seat,
         pairs: pairs + count,
         buffers: buffers + count.min(1),
-        rounds_done,
+        rounds,
     }
 }
 
@@ -231,7 +231,7 @@ impl<M: CostModel> Engine<M> {
             seat,
             pairs: 0,
             buffers: 0,
-            rounds_done: 0,
+            rounds: 0,
         };
         let progress = work_full_buffers(rt, &shared, gate, progress);
         let Ended {
@@ -239,7 +239,7 @@ impl<M: CostModel> Engine<M> {
             seat,
             pairs,
             buffers,
-            rounds_done,
+            rounds,
         } = work_last_buffer(rt, &shared, gate, progress);
         let Shared {
             memo,
@@ -253,7 +253,7 @@ impl<M: CostModel> Engine<M> {
                 words,
                 pairs,
                 buffers,
-                rounds: rounds_done,
+                rounds,
             },
             stream,
         )

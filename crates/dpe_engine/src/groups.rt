@@ -16,11 +16,11 @@ use std::thread::Threads;
 const NARROW: usize = 32;
 
 // The threads of a group of the full buffer.
-fn threads_of(workers: u32, rounds_done: u64, full: &Buffer) -> usize
+fn threads_of(workers: u32, rounds: u64, full: &Buffer) -> usize
     requires { 1 ≤ workers }
     ensures { 1 ≤ result }
 {
-    if rounds_done == 0 && full.is_full() && full.len() >= NARROW {
+    if rounds == 0 && full.is_full() && full.len() >= NARROW {
         return workers as usize;
     }
     threads_for(workers, full.group().len())
@@ -33,7 +33,7 @@ fn work_group<M: CostModel, G: Gate, R: Threads + Sync>(
     shared: &Shared<M>,
     gate: &G,
     pairs: u64,
-    rounds_done: u64,
+    rounds: u64,
     size: u32,
     full: &mut Buffer,
     crew: &mut Vec<MemoSeat<M>>,
@@ -42,19 +42,19 @@ fn work_group<M: CostModel, G: Gate, R: Threads + Sync>(
     requires shared { IsShared shared.now.memo shared.now.cards shared.now.workers }
     requires size { size < SIZES }
     requires next { StandNext shared.now.memo.pairs (take pairs shared.now.memo.pairs) full.old.pairs }
-    requires between { IsBetween M.KIND shared.now.memo shared.now.workers (take pairs shared.now.memo.pairs ++ below size full.old.pairs) rounds_done seat.old }
+    requires between { IsBetween M.KIND shared.now.memo shared.now.workers (take pairs shared.now.memo.pairs ++ below size full.old.pairs) rounds seat.old }
     requires free { HasFreeCrew shared.now.workers crew.old.items (vec_capacity crew.old) }
     ensures between { IsBetween M.KIND shared.now.memo shared.now.workers (take pairs shared.now.memo.pairs ++ below (size + 1) full.old.pairs) result seat.new }
-    ensures counted { result + length (groups_below size full.old.pairs) ≡ rounds_done + length (groups_below (size + 1) full.old.pairs) }
+    ensures counted { result + length (groups_below size full.old.pairs) ≡ rounds + length (groups_below (size + 1) full.old.pairs) }
     ensures full { (full.new.pairs ≡ full.old.pairs) × (full.new.room ≡ full.old.room) }
     ensures free { HasFreeCrew shared.now.workers crew.new.items (vec_capacity crew.new) }
 {
     let _ = pairs;
     if full.count(size) == 0 {
-        return rounds_done;
+        return rounds;
     }
     full.pick(size);
-    let threads = threads_of(shared.workers, rounds_done, full);
+    let threads = threads_of(shared.workers, rounds, full);
     let group = full.group();
     round_in(
         rt,
@@ -68,7 +68,7 @@ fn work_group<M: CostModel, G: Gate, R: Threads + Sync>(
         seat,
         crew,
     );
-    rounds_done + 1
+    rounds + 1
 }
 
 // Works the groups of a buffer by ascending size, after `pairs` pairs of the list. It answers how many rounds there were.
@@ -77,15 +77,15 @@ pub(crate) fn work_groups<M: CostModel, G: Gate, R: Threads + Sync>(
     shared: &Shared<M>,
     gate: &G,
     pairs: u64,
-    rounds_done: u64,
+    rounds: u64,
     full: &mut Buffer,
     crew: &mut Vec<MemoSeat<M>>,
     seat: &mut MemoSeat<M>,
 ) -> u64
-    requires { MayWorkBuffer M.KIND shared.now.memo shared.now.cards shared.now.workers pairs rounds_done full.old crew.old.items (vec_capacity crew.old) seat.old }
-    ensures { HasWorkedBuffer M.KIND shared.now.memo shared.now.workers pairs rounds_done result full.old full.new crew.new.items (vec_capacity crew.new) seat.new }
+    requires { MayWorkBuffer M.KIND shared.now.memo shared.now.cards shared.now.workers pairs rounds full.old crew.old.items (vec_capacity crew.old) seat.old }
+    ensures { HasWorkedBuffer M.KIND shared.now.memo shared.now.workers pairs rounds result full.old full.new crew.new.items (vec_capacity crew.new) seat.new }
 {
-    let mut total = rounds_done;
+    let mut total = rounds;
     'sizes: for size in 0..SIZES as u32 {
         total = work_group(rt, shared, gate, pairs, total, size, full, crew, seat);
     }

@@ -22,7 +22,7 @@ pub(crate) struct Progress<P, M: CostModel> {
     // How many pairs, buffers and rounds are done.
     pub(crate) pairs: u64,
     pub(crate) buffers: u64,
-    pub(crate) rounds_done: u64,
+    pub(crate) rounds: u64,
 }
 
 // Tells the gate, and fills the buffer.
@@ -47,18 +47,18 @@ fn work_full<M: CostModel, G: Gate, R: Threads + Sync>(
     shared: &Shared<M>,
     gate: &G,
     pairs: u64,
-    rounds_done: u64,
+    rounds: u64,
     mut full: Buffer,
     mut crew: Vec<MemoSeat<M>>,
     mut seat: MemoSeat<M>,
 ) -> (Buffer, Vec<MemoSeat<M>>, MemoSeat<M>, u64)
-    requires { MayWorkBuffer M.KIND shared.now.memo shared.now.cards shared.now.workers pairs rounds_done full crew.items (vec_capacity crew) seat }
-    ensures { HasWorkedBuffer M.KIND shared.now.memo shared.now.workers pairs rounds_done result.3 full result.0 result.1.items (vec_capacity result.1) result.2 }
+    requires { MayWorkBuffer M.KIND shared.now.memo shared.now.cards shared.now.workers pairs rounds full crew.items (vec_capacity crew) seat }
+    ensures { HasWorkedBuffer M.KIND shared.now.memo shared.now.workers pairs rounds result.3 full result.0 result.1.items (vec_capacity result.1) result.2 }
 {
-    let rounds_done = work_groups(
-        rt, shared, gate, pairs, rounds_done, &mut full, &mut crew, &mut seat,
+    let rounds = work_groups(
+        rt, shared, gate, pairs, rounds, &mut full, &mut crew, &mut seat,
     );
-    (full, crew, seat, rounds_done)
+    (full, crew, seat, rounds)
 }
 
 // Fills the next buffer, and then works the full one.
@@ -69,10 +69,10 @@ fn fill_then_work<P: PairStream, M: CostModel, G: Gate, R: Threads + Sync>(
     number: u64,
     progress: Progress<P, M>,
 ) -> Progress<P, M>
-    requires { MayWorkBuffer M.KIND shared.now.memo shared.now.cards shared.now.workers progress.pairs progress.rounds_done progress.full progress.crew.items (vec_capacity progress.crew) progress.seat }
+    requires { MayWorkBuffer M.KIND shared.now.memo shared.now.cards shared.now.workers progress.pairs progress.rounds progress.full progress.crew.items (vec_capacity progress.crew) progress.seat }
     ensures filled { IsFilled (P.left progress.stream) (P.left result.stream) (P.ended result.stream) progress.next result.next }
     ensures total { P.total result.stream ≡ P.total progress.stream }
-    ensures worked { HasWorkedBuffer M.KIND shared.now.memo shared.now.workers progress.pairs progress.rounds_done result.rounds_done progress.full result.full result.crew.items (vec_capacity result.crew) result.seat }
+    ensures worked { HasWorkedBuffer M.KIND shared.now.memo shared.now.workers progress.pairs progress.rounds result.rounds progress.full result.full result.crew.items (vec_capacity result.crew) result.seat }
     ensures counts { (result.pairs ≡ progress.pairs) × (result.buffers ≡ progress.buffers) }
 {
     let Progress {
@@ -83,10 +83,10 @@ fn fill_then_work<P: PairStream, M: CostModel, G: Gate, R: Threads + Sync>(
         seat,
         pairs,
         buffers,
-        rounds_done,
+        rounds,
     } = progress;
     let (stream, next) = fill_next(gate, number, stream, next);
-    let (full, crew, seat, rounds_done) = work_full(rt, shared, gate, pairs, rounds_done, full, crew, seat);
+    let (full, crew, seat, rounds) = work_full(rt, shared, gate, pairs, rounds, full, crew, seat);
     Progress {
         stream,
         full,
@@ -95,7 +95,7 @@ fn fill_then_work<P: PairStream, M: CostModel, G: Gate, R: Threads + Sync>(
         seat,
         pairs,
         buffers,
-        rounds_done,
+        rounds,
     }
 }
 
@@ -107,10 +107,10 @@ fn fill_beside_work<P: PairStream, M: CostModel, G: Gate, R: Threads + Sync>(
     number: u64,
     progress: Progress<P, M>,
 ) -> Progress<P, M>
-    requires { MayWorkBuffer M.KIND shared.now.memo shared.now.cards shared.now.workers progress.pairs progress.rounds_done progress.full progress.crew.items (vec_capacity progress.crew) progress.seat }
+    requires { MayWorkBuffer M.KIND shared.now.memo shared.now.cards shared.now.workers progress.pairs progress.rounds progress.full progress.crew.items (vec_capacity progress.crew) progress.seat }
     ensures filled { IsFilled (P.left progress.stream) (P.left result.stream) (P.ended result.stream) progress.next result.next }
     ensures total { P.total result.stream ≡ P.total progress.stream }
-    ensures worked { HasWorkedBuffer M.KIND shared.now.memo shared.now.workers progress.pairs progress.rounds_done result.rounds_done progress.full result.full result.crew.items (vec_capacity result.crew) result.seat }
+    ensures worked { HasWorkedBuffer M.KIND shared.now.memo shared.now.workers progress.pairs progress.rounds result.rounds progress.full result.full result.crew.items (vec_capacity result.crew) result.seat }
     ensures counts { (result.pairs ≡ progress.pairs) × (result.buffers ≡ progress.buffers) }
 {
     let Progress {
@@ -121,14 +121,14 @@ fn fill_beside_work<P: PairStream, M: CostModel, G: Gate, R: Threads + Sync>(
         seat,
         pairs,
         buffers,
-        rounds_done,
+        rounds,
     } = progress;
-    let ((stream, next), (full, crew, seat, rounds_done)) = join(
+    let ((stream, next), (full, crew, seat, rounds)) = join(
         rt,
         move || fill_next(gate, number, stream, next),
         move ||
-            requires { MayWorkBuffer M.KIND shared.now.memo shared.now.cards shared.now.workers pairs rounds_done full crew.items (vec_capacity crew) seat }
-        { work_full(rt, shared, gate, pairs, rounds_done, full, crew, seat) },
+            requires { MayWorkBuffer M.KIND shared.now.memo shared.now.cards shared.now.workers pairs rounds full crew.items (vec_capacity crew) seat }
+        { work_full(rt, shared, gate, pairs, rounds, full, crew, seat) },
     );
     Progress {
         stream,
@@ -138,7 +138,7 @@ fn fill_beside_work<P: PairStream, M: CostModel, G: Gate, R: Threads + Sync>(
         seat,
         pairs,
         buffers,
-        rounds_done,
+        rounds,
     }
 }
 
@@ -150,10 +150,10 @@ fn fill_and_work<P: PairStream, M: CostModel, G: Gate, R: Threads + Sync>(
     number: u64,
     progress: Progress<P, M>,
 ) -> Progress<P, M>
-    requires { MayWorkBuffer M.KIND shared.now.memo shared.now.cards shared.now.workers progress.pairs progress.rounds_done progress.full progress.crew.items (vec_capacity progress.crew) progress.seat }
+    requires { MayWorkBuffer M.KIND shared.now.memo shared.now.cards shared.now.workers progress.pairs progress.rounds progress.full progress.crew.items (vec_capacity progress.crew) progress.seat }
     ensures filled { IsFilled (P.left progress.stream) (P.left result.stream) (P.ended result.stream) progress.next result.next }
     ensures total { P.total result.stream ≡ P.total progress.stream }
-    ensures worked { HasWorkedBuffer M.KIND shared.now.memo shared.now.workers progress.pairs progress.rounds_done result.rounds_done progress.full result.full result.crew.items (vec_capacity result.crew) result.seat }
+    ensures worked { HasWorkedBuffer M.KIND shared.now.memo shared.now.workers progress.pairs progress.rounds result.rounds progress.full result.full result.crew.items (vec_capacity result.crew) result.seat }
     ensures counts { (result.pairs ≡ progress.pairs) × (result.buffers ≡ progress.buffers) }
 {
     if shared.workers > 1 {
@@ -170,9 +170,9 @@ pub(crate) fn step<P: PairStream, M: CostModel, G: Gate, R: Threads + Sync>(
     gate: &G,
     progress: Progress<P, M>,
 ) -> Progress<P, M>
-    requires running { IsRunning M.KIND shared.now.memo shared.now.cards shared.now.workers progress.full.room progress.pairs progress.buffers progress.rounds_done (P.left progress.stream) (P.ended progress.stream) progress.full progress.next progress.crew.items (vec_capacity progress.crew) progress.seat }
+    requires running { IsRunning M.KIND shared.now.memo shared.now.cards shared.now.workers progress.full.room progress.pairs progress.buffers progress.rounds (P.left progress.stream) (P.ended progress.stream) progress.full progress.next progress.crew.items (vec_capacity progress.crew) progress.seat }
     requires full { length progress.full.pairs ≡ progress.full.room }
-    ensures running { IsRunning M.KIND shared.now.memo shared.now.cards shared.now.workers progress.full.room result.pairs result.buffers result.rounds_done (P.left result.stream) (P.ended result.stream) result.full result.next result.crew.items (vec_capacity result.crew) result.seat }
+    ensures running { IsRunning M.KIND shared.now.memo shared.now.cards shared.now.workers progress.full.room result.pairs result.buffers result.rounds (P.left result.stream) (P.ended result.stream) result.full result.next result.crew.items (vec_capacity result.crew) result.seat }
     ensures total { P.total result.stream ≡ P.total progress.stream }
     ensures fewer { length result.full.pairs + length (P.left result.stream) < length progress.full.pairs + length (P.left progress.stream) }
     ensures room { result.full.room ≡ progress.full.room }
@@ -187,7 +187,7 @@ pub(crate) fn step<P: PairStream, M: CostModel, G: Gate, R: Threads + Sync>(
         seat,
         pairs,
         buffers: _,
-        rounds_done,
+        rounds,
     } = fill_and_work(rt, shared, gate, number, progress);
     Progress {
         stream,
@@ -197,6 +197,6 @@ pub(crate) fn step<P: PairStream, M: CostModel, G: Gate, R: Threads + Sync>(
         seat,
         pairs: pairs + count,
         buffers: number,
-        rounds_done,
+        rounds,
     }
 }

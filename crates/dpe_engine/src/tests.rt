@@ -59,7 +59,7 @@ fn pairs_of_size(alloc: Global, pairs: &[Pair], count: u32) -> Result<Vec<Pair>,
 fn work_level<R: Threads + Sync>(
     rt: &R,
     memo: &Memo<Ops>,
-    rounds_done: u64,
+    rounds: u64,
     count: u32,
     group: &[Pair],
     cards: &CardTable,
@@ -67,16 +67,16 @@ fn work_level<R: Threads + Sync>(
     crew: &mut Vec<MemoSeat<Ops>>,
 ) -> u64
     requires shared { IsShared memo.now cards.now 2 }
-    requires between { IsBetween 0 memo.now 2 (below count memo.now.pairs) rounds_done seat.old }
+    requires between { IsBetween 0 memo.now 2 (below count memo.now.pairs) rounds seat.old }
     requires group { group.now ≡ group_of count memo.now.pairs }
     requires some { 1 ≤ length group.now }
     requires empty { crew.old.items ≡ [] }
     requires room { 2 ≤ vec_capacity crew.old }
-    ensures between { IsBetween 0 memo.now 2 (below (count + 1) memo.now.pairs) (rounds_done + 1) seat.new }
+    ensures between { IsBetween 0 memo.now 2 (below (count + 1) memo.now.pairs) (rounds + 1) seat.new }
     ensures empty { crew.new.items ≡ [] }
     ensures room { vec_capacity crew.new ≡ vec_capacity crew.old }
 {
-    let _ = (rounds_done, count);
+    let _ = (rounds, count);
     round(rt, memo, 2, group, &Ops, cards, &OpenGate, seat, crew)
 }
 

@@ -9,7 +9,7 @@ pub returns-then-count-eq0-clause-between : goal.returns-then-count-eq0-clause-b
 returns-then-count-eq0-clause-between g c = no_round _ _ _ _ c.args.size (take c.args.pairs c.args.shared.now.memo.pairs) c.args.full.now.pairs _ c.requires.between (let e = c.count.ensures in let f = c.if-count-eq0.true in omega arith)
 
 pub returns-then-count-eq0-clause-counted : goal.returns-then-count-eq0-clause-counted
-returns-then-count-eq0-clause-counted g c = counted_none c.args.size c.args.rounds_done c.args.full.now.pairs (let e = c.count.ensures in let f = c.if-count-eq0.true in omega arith)
+returns-then-count-eq0-clause-counted g c = counted_none c.args.size c.args.rounds c.args.full.now.pairs (let e = c.count.ensures in let f = c.if-count-eq0.true in omega arith)
 
 pub round_in-requires-clause-may : goal.round_in-requires-clause-may
 round_in-requires-clause-may g c κs within =
@@ -23,4 +23,4 @@ returns-clause-between g c =
     next_group _ _ _ _ c.args.size (take c.args.pairs c.args.shared.now.memo.pairs) c.args.full.now.pairs _ (after_round _ _ _ _ _ _ _ _ _ c.requires.between counted (let e = c.count.ensures in let f = c.if-count-eq0.false in omega arith))
 
 pub returns-clause-counted : goal.returns-clause-counted
-returns-clause-counted g c = counted_some c.args.size c.args.rounds_done c.args.full.now.pairs (let e = c.count.ensures in let f = c.if-count-eq0.false in omega arith)
+returns-clause-counted g c = counted_some c.args.size c.args.rounds c.args.full.now.pairs (let e = c.count.ensures in let f = c.if-count-eq0.false in omega arith)

@@ -20,7 +20,7 @@ work_group-total-requires-clause-free g c κs within = c.sizes.invariant.free
 pub sizes-init : goal.sizes-init
 sizes-init g c = record {
   between = begins_buffer _ _ _ _ _ _ _ c.requires.between;
-  total = none_counted c.args.rounds_done c.args.full.now.pairs;
+  total = none_counted c.args.rounds c.args.full.now.pairs;
   same = search rules;
   kept = search rules;
   free = c.requires.free;
@@ -45,7 +45,7 @@ returns g c =
     let i = c.sizes.invariant in
     let end : c.sizes.size ≡ SIZES = let a = c.sizes-test.false in let b = c.sizes.auto.size-end in omega arith in
     let F : ℕ → Type 0 = λ n. IsBetween g.M.CostModel.KIND c.args.shared.now.memo c.args.shared.now.workers (take c.args.pairs c.args.shared.now.memo.pairs ++ below n c.args.full.now.pairs) c.sizes.total c.sizes.seat in
-    let G : ℕ → Type 0 = λ n. c.sizes.total ≡ c.args.rounds_done + length (groups_below n c.args.full.now.pairs) in
+    let G : ℕ → Type 0 = λ n. c.sizes.total ≡ c.args.rounds + length (groups_below n c.args.full.now.pairs) in
     record {
       between = buffer_done _ _ _ _ _ (take c.args.pairs c.args.shared.now.memo.pairs) c.args.full.now.pairs c.requires.next.rest _ c.requires.shared c.requires.next.is (subst F end i.between);
       counted = subst G end i.total;
