@@ -12,7 +12,7 @@ use Rattle.dpe_base.proofs.SizeLaws.{within_span, union_some}
 use Rattle.join_graph.specs.Graphs.{Pairs, graph_of}
 use Rattle.card_scaled.specs.Cards.{rows}
 use Rattle.cost_model.specs.Words.{least_split_word}
-use Rattle.join_tree.specs.Trees.{Made, Least, pair_word}
+use Rattle.join_tree.specs.Trees.{Least, pair_word}
 use Rattle.join_tree.proofs.Substructure.{least_word_same}
 use Rattle.memo_table.specs.declared.view.View.{View}
 use Rattle.memo_table.specs.Seats.{SeatView, Settled}
@@ -43,11 +43,6 @@ pair_of_query q p ok is =
       small_first = within_span p.a (relations q) is.first.within ok.few;
       small_second = within_span p.b (relations q) is.second.within ok.few;
     }
-
--- the word that is loaded of a settled set is its least word
-pub loaded_least : (kind : ℕ) (v : View) (s x : ℕ) → Settled kind v s → Made kind v.query v.pairs s x → ((w : ℕ) → Contains v.bounds (s, w) → x ≤ w) → Least kind v.query v.pairs s x
-loaded_least kind v s x settled made low =
-    record { made = made; least = λ u m. let a = low settled.word settled.bound in let b = settled.least.least u m in omega arith }
 
 -- a settled set stays settled where bounds are added
 pub stays_settled : (kind : ℕ) (v w : View) (s : ℕ) → w.query ≡ v.query → w.pairs ≡ v.pairs → ((b : ℕ × ℕ) → Contains v.bounds b → Contains w.bounds b) → Settled kind v s → Settled kind w s

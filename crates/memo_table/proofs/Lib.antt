@@ -9,3 +9,4 @@ mod Ending
 pub mod SeatLaws
 mod Leaves
 mod TwoRelations
+mod Final

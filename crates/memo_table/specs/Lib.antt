@@ -4,3 +4,4 @@ pub mod Steps
 pub mod Seats
 pub mod Making
 pub mod Finishing
+pub mod Laws

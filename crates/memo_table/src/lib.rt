@@ -15,6 +15,7 @@
 
 mod finish;
 mod key;
+pub mod laws;
 mod make;
 mod memo;
 mod rule;

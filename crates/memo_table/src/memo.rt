@@ -2,8 +2,8 @@
 ghost use Rattle.std.specs.Prelude.{◌≡◌, ◌≢◌, ◌⊎◌, ℕ, ◌+◌, ◌≤◌, ◌<◌, All, Contains};
 ghost use Rattle.dpe_base.specs.Queries.{relations};
 ghost use Rattle.dpe_base.specs.Sets.{Within, full};
-ghost use Rattle.join_tree.specs.Trees.{IsEmptyOrMade, Made};
-ghost use Rattle.memo_table.specs.Seats.{IsSeatOf, BoundsAreMade};
+ghost use Rattle.join_tree.specs.Trees.{IsEmptyOrMade, Least, Made};
+ghost use Rattle.memo_table.specs.Seats.{IsSeatOf, BoundsAreMade, Settled};
 ghost use Rattle.memo_table.specs.Views.{EachOnceBelow, with_bound, with_offer, with_ticket, with_floor};
 
 use crate::rule::{Key, MemoRule};
@@ -48,7 +48,8 @@ fn place_of(s: RelSet) -> usize
 
 impl<M: CostModel> Memo<M> {
     /// The word of a set of which the seat has a bound: that of a tree over it, and at most each bound.
-    /// It is at most each word that this seat has offered, and a bound from then on.
+    /// It is at most each word that this seat has offered, and a bound from then on. Of a set that the seat knows
+    /// as settled it is the least word of all trees over it.
     pub fn load(&self, seat: &mut MemoSeat<M>, s: RelSet) -> u64
         requires seat { IsSeatOf self.now seat.old }
         requires held { (w : ℕ) × Contains seat.old.view.bounds (s, w) }
@@ -57,6 +58,7 @@ impl<M: CostModel> Memo<M> {
         ensures made { Made M.KIND self.now.query self.now.pairs s result }
         ensures some { result ≢ EMPTY }
         ensures least { (w : ℕ) → Contains seat.old.view.bounds (s, w) → result ≤ w }
+        ensures settled { Settled M.KIND seat.old.view s → Least M.KIND self.now.query self.now.pairs s result }
     {
         find_word(&self.table.shared, &mut seat.seat, place_of(s))
     }

@@ -1,4 +1,4 @@
-use Rattle.std.proofs.Common.{◌≡◌, ◌⊎◌, Contains, ℕ, sym, subst, ap, ◌∙◌}
+use Rattle.std.proofs.Common.{◌≡◌, ◌⊎◌, Contains, ℕ, refl, sym, subst, ap, ◌∙◌}
 use Rattle.dpe_base.specs.declared.TheConstants.{EMPTY}
 use Rattle.dpe_base.specs.Sets.{union}
 use Rattle.dpe_base.proofs.Members.{contains_tail}
@@ -7,8 +7,9 @@ use Rattle.join_tree.specs.Trees.{Made, Least, pair_word}
 use Rattle.card_scaled.proofs.CardLaws.{rows_bounds}
 use Rattle.join_tree.proofs.BuiltLists.{built_lists_are_workable}
 use Rattle.memo_table.specs.declared.view.View.{View}
-use Rattle.memo_table.specs.Views.{with_offer}
-use Rattle.dpe_engine.proofs.PairSteps.{pair_of_query, loaded_least, worked_pair, word_is}
+use Rattle.memo_table.specs.Seats.{Settled}
+use Rattle.memo_table.specs.Views.{with_bound, with_offer}
+use Rattle.dpe_engine.proofs.PairSteps.{pair_of_query, stays_settled, worked_pair, word_is}
 use Rattle.dpe_engine.proofs.worker.work_pair.Goals as goal
 
 pub load-second-requires-clause-held : goal.load-second-requires-clause-held
@@ -74,12 +75,11 @@ returns g c =
     let kind = g.M.CostModel.KIND in
     let q = c.args.memo.now.query in
     let v : View = c.args.seat.now.view in
-    let ma : Made kind v.query v.pairs c.args.pair.a c.load-first.result = rw (c.requires.seat.query, c.requires.seat.pairs) c.load-first.ensures.made in
-    let mb : Made kind v.query v.pairs c.args.pair.b c.load-second.result = rw (c.requires.seat.query, c.requires.seat.pairs) c.load-second.ensures.made in
-    let la : Least kind v.query v.pairs c.args.pair.a c.load-first.result = loaded_least kind v c.args.pair.a c.load-first.result c.requires.first ma c.load-first.ensures.least in
-    let lb : Least kind v.query v.pairs c.args.pair.b c.load-second.result =
-    loaded_least kind v c.args.pair.b c.load-second.result c.requires.second mb
-    (λ w h. let F : View → Type 0 = λ u. Contains u.bounds (c.args.pair.b, w) in c.load-second.ensures.least w (subst F (sym c.load-first.ensures.view) (contains_tail _ _ _ h))) in
+    let la : Least kind v.query v.pairs c.args.pair.a c.load-first.result = rw (c.requires.seat.query, c.requires.seat.pairs) (c.load-first.ensures.settled c.requires.first) in
+    let S : View → Type 0 = λ u. Settled kind u c.args.pair.b in
+    let still : Settled kind c.load-first.new.seat.view c.args.pair.b =
+    subst S (sym c.load-first.ensures.view) (stays_settled kind v (with_bound v c.args.pair.a c.load-first.result) c.args.pair.b refl refl (contains_tail _ _) c.requires.second) in
+    let lb : Least kind v.query v.pairs c.args.pair.b c.load-second.result = rw (c.requires.seat.query, c.requires.seat.pairs) (c.load-second.ensures.settled still) in
     let is = word_is kind q c.args.pair c.load-first.result c.load-second.result _ _ _ _ c.best_split-word.ensures
     (c.rows-rows_a.ensures.cardinality q c.requires.planned.rows) (c.rows-rows_b.ensures.cardinality q c.requires.planned.rows)
     (c.rows-rows.ensures.cardinality q c.requires.planned.rows ∙ ap (rows q) c.union-union.ensures) in

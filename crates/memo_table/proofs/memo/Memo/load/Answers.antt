@@ -1,5 +1,9 @@
-use Rattle.std.proofs.Common.{rules, arith, ◌≡◌, Contains, refl, ◌∙◌}
+use Rattle.std.proofs.Common.{rules, arith, ◌≡◌, Contains, refl, sym, subst, ◌∙◌}
 use Rattle.dpe_base.proofs.SizeLaws.{full_below}
+use Rattle.join_tree.specs.Trees.{Least}
+use Rattle.memo_table.specs.declared.view.View.{View}
+use Rattle.memo_table.specs.Seats.{Settled}
+use Rattle.memo_table.proofs.Final.{loaded_least}
 use Rattle.memo_table.proofs.WordSteps.{loads}
 use Rattle.memo_table.proofs.SeatLaws.{seated, made_with_bound}
 use Rattle.memo_table.proofs.memo.Memo.load.Goals as goal
@@ -35,3 +39,12 @@ returns-clause-some g c = let found = c.find_word.ensures.told.1 c.args.s c.plac
 
 pub returns-clause-least : goal.returns-clause-least
 returns-clause-least g c = let found = c.find_word.ensures.told.1 c.args.s c.place_of.ensures in rw (← c.seat.view_is) found.least
+
+pub returns-clause-settled : goal.returns-clause-settled
+returns-clause-settled g c settled =
+    let found = c.find_word.ensures.told.1 c.args.s c.place_of.ensures in
+    let kind = g.M.CostModel.KIND in
+    let seen : c.args.seat.now.view ≡ c.seat.inside.seat.me.0 = search rules in
+    let F : View → Type 0 = λ v. Settled kind v c.args.s → Least kind v.query v.pairs c.args.s c.find_word.result in
+    let least = subst F (sym seen) (λ x. loaded_least kind c.seat.inside.seat.me.0 c.args.s c.find_word.result x found.made found.least) settled in
+    rw (← c.requires.seat.query, ← c.requires.seat.pairs) least
