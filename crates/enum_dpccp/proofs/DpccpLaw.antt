@@ -1,5 +1,5 @@
 -- The list by first sides is complete and ordered.
-use Rattle.std.proofs.Common.{◌≡◌, ◌≢◌, ℕ, suc, ◌≤◌, inl, inr, arith, sym, ap, subst, map}
+use Rattle.std.proofs.Common.{◌≡◌, ◌≢◌, ◌↔◌, ℕ, suc, ◌≤◌, inl, inr, arith, sym, ap, subst, map}
 use Rattle.std.specs.List.{AllPairs, Contains}
 use Rattle.dpe_base.specs.declared.pair.Pair.{Pair}
 use Rattle.dpe_base.specs.Sets.{Has, Within, Disjoint, IsLeast, union, full, least}
@@ -7,7 +7,7 @@ use Rattle.dpe_base.proofs.SetLaws.{full_has, full_limit, union_left, union_righ
 use Rattle.dpe_base.proofs.SizeLaws.{union_some}
 use Rattle.join_graph.specs.Graphs.{JoinGraph, IsGraph, Connected, Pairs, pair_of}
 use Rattle.pair_stream.specs.Orders.{Ordered, Complete}
-use Rattle.pair_stream.proofs.Lists.{contains_map, contains_from_map, contains_flat_map, contains_from_flat_map, pairs_map, pairs_flat_map}
+use Rattle.pair_stream.proofs.Lists.{contains_map, contains_from_map, contains_flat_map, contains_from_flat_map, pairs_map, pairs_flat_map, pairs_weaker}
 use Rattle.pair_stream.proofs.SubsetLaws.{least_is}
 use Rattle.pair_stream.proofs.ConnectivityLaws.{connected_least}
 use Rattle.pair_stream.proofs.OrderLaws.{MayPrecede, union_not_left, complete_from, ordered_from}
@@ -68,6 +68,14 @@ module _ (g : JoinGraph) (ok : IsGraph g) where
                 h.apart r (subst (Has p.a) same own.0) y
             | inr m ↦ h.apart r m y
           ]
+
+  -- the second sides of a are those that make a pair with it
+  pub second_pairs : (a b : ℕ) → Connected g a → Contains (second_sides g a) b ↔ Pairs g (pair_of a b)
+  second_pairs a b c = (λ h. pair_from a b c ((second_has g ok a b).0 h), λ p. (second_has g ok a b).1 (pair_second (pair_of a b) p))
+
+  -- no first side stands twice
+  pub first_once : AllPairs (λ a b. a ≢ b) (first_sides g)
+  first_once = pairs_weaker (λ a b. a ≢ b) (FirstOrder g ok) (first_sides g) (first_order g ok) (λ a b ma mb w e. w.0 (subst (λ k. Within k a) e (λ r h. h)))
 
   pub ccp_sound : (p : Pair) → Contains (seq_dpccp g) p → Pairs g p
   unfolding seq_dpccp

@@ -4,6 +4,7 @@
 
 mod dpccp;
 mod growth;
+pub mod laws;
 mod sides;
 #[cfg(test)]
 mod tests;

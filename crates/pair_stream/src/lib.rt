@@ -4,6 +4,7 @@
 
 mod collect;
 mod dpsub;
+pub mod laws;
 mod parts;
 mod stream;
 #[cfg(test)]

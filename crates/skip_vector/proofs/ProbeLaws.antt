@@ -14,7 +14,7 @@ use Rattle.dpe_base.proofs.SetLaws.{disjoint_by_inter}
 use Rattle.dpe_base.proofs.SizeLaws.{meets_by_inter, meets_true}
 use Rattle.dpe_base.proofs.ListOrder.{order_same}
 use Rattle.skip_vector.proofs.PrefixLaws.{HasIn, hasin_meets, up_to_here, up_to_later}
-use Rattle.skip_vector.specs.Skips.{first_relations, up_to, blocking_prefix, is_free, IsPart, IsAfter, has_blocking_prefix, is_probed, probes, NoneFree, IsFirstFree, IsColumn, IsProbed}
+use Rattle.skip_vector.specs.Skips.{first_relations, up_to, blocking_prefix, is_free, IsPart, IsAfter, has_blocking_prefix, is_probed, probes, NoneFree, IsFirstFree, IsColumn, IsProbed, PrefixesStandTogether}
 
 -- ---- lists
 
@@ -81,6 +81,10 @@ take-between (suc p) (r ∷ rs) (s ∷ ss) (t ∷ ts) a b e =
           let tail : take p ss ≡ take p rs = take-between p rs ss ts eq.1 later rest in
           cc
     ]
+
+pub prefixes_together : PrefixesStandTogether
+prefixes_together part p i j k ok a b l e =
+    take-between p (members (slice_index part i)) (members (slice_index part j)) (members (slice_index part k)) (ok.ascends i j a (omega arith)) (ok.ascends j k b l) e
 
 -- ---- tests
 

@@ -87,3 +87,10 @@ IsProbed part from x n =
 -- the places that are counted as probed are those that are probed
 abbrev pub ProbedPlaces : Type 0
 ProbedPlaces = (part : List ℕ) (from x n : ℕ) → IsTrue (is_probed part from x n) ↔ IsProbed part from x n
+
+-- in a part the entries whose first p relations are the same stand together
+abbrev pub PrefixesStandTogether : Type 0
+PrefixesStandTogether =
+    (part : List ℕ) (p i j k : ℕ) → IsPart part → i < j → j < k → k < length part
+    → first_relations p (slice_index part i) ≡ first_relations p (slice_index part k)
+    → first_relations p (slice_index part j) ≡ first_relations p (slice_index part i)
