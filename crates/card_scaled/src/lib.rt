@@ -2,6 +2,7 @@
 #![tactic(auto)]
 
 mod cards;
+pub mod laws;
 mod scaled;
 #[cfg(test)]
 mod tests;
