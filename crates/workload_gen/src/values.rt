@@ -38,7 +38,7 @@ impl Part for Relation {
         let table = self.table;
         let table = format!(in alloc; "t{table}")?;
         let kept = self.kept;
-        json!(in alloc; {"alias": alias, "table": table, "filter": [kept, 100u64]})
+        json!(in alloc; {"alias": alias, "table": table, "filter": [kept, KEPT_OF]})
     }
 }
 
