@@ -59,11 +59,15 @@ fn texts_in<'a>(alloc: Global, line: &'a [&'a str]) -> Result<Texts<'a>, WordFau
 
 // How many pairs a buffer has room for.
 const BUFFER_MIN: u32 = 1;
+
 const BUFFER_MAX: u32 = 65536;
+
 const BUFFER_DEFAULT: u32 = 4096;
 
 const WORKERS_MIN: u32 = 1;
+
 const WORKERS_MAX: u32 = 64;
+
 const WORKERS_DEFAULT: u32 = 4;
 
 /// What the values ask for, where each stands in its table.

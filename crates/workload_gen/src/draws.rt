@@ -17,6 +17,7 @@ const EXTRA_COUNTS: u64 = 4;
 
 // The fewest relations of a query, and how many numbers of them there are: 2 to 12.
 const N_MIN: u64 = 2;
+
 const N_COUNTS: u64 = 11;
 
 /// The remainder of the next word by `k`.

@@ -3,7 +3,7 @@ ghost use Rattle.serde_json.specs.Data.{Data, array};
 ghost use Rattle.serde_json.specs.View.{view};
 ghost use Rattle.workload_gen.specs.Values.{join_value, query_value, relation_value, table_value, values};
 
-use crate::sample::{Join, Query, Relation, Table};
+use crate::sample::{Join, KEPT_OF, Query, Relation, Table};
 use serde_json::{Value, json};
 use std::alloc::{AllocError, Global};
 
