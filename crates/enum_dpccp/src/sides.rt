@@ -137,7 +137,9 @@ impl SecondSides {
         ensures spent { IfNone result (growth_left graph.now self.new.growth ≡ []) }
     {
         let _n = graph.n();
-        let i = greatest(self.starts)?;
+        let Some(i) = greatest(self.starts) else {
+            return None;
+        };
         let start = RelSet::single(i);
         // Of the starts, those above this one have come already.
         let excluded = self.excluded.union(self.starts);
