@@ -8,7 +8,7 @@ use dpe_base::Pair;
 use enum_dpsize::DpSize;
 use join_graph::Graph;
 use pair_stream::{Parts, collect_pairs};
-use reorder_buffer::ROOM_MAX;
+use reorder_buffer::{ROOM_MAX, SIZES};
 use std::alloc::Global;
 use std::test::Fail;
 
@@ -73,7 +73,7 @@ fn first_ticket_of_a_group(list: &[Pair], room: usize, workers: u64, pairs: u64)
 {
     let mut ticket = 0u64;
     'runs: for run in list.chunks(room) {
-        'sizes: for size in 2..33u32 {
+        'sizes: for size in 2..SIZES as u32 {
             let count = group_len(run, size);
             if count > pairs {
                 return Some(ticket);
@@ -96,12 +96,11 @@ fn pairs_by_dpsize(alloc: Global, graph: &Graph) -> Result<Vec<Pair>, Fail> {
 fn two_workers_draw_at_the_same_time_in_a_large_group(rt: HostRuntime) -> Result<(), Fail> {
     let query = query_of_ones(rt.alloc(), Shape::Clique, 13)?;
     let list = pairs_by_dpsize(rt.alloc(), &Graph::of(&query))?;
-    // 78 + 858 + 5,005 + 19,305 pairs have unions of up to five relations
-    let first = first_ticket_of_a_group(&list, ROOM_MAX as usize, 2, 30_000);
-    assert_eq!(rt; first, Some(25_254));
-    let Some(first) = first else {
-        return Ok(());
-    };
+    // 78 + 858 + 5,005 + 19,305 pairs have unions of up to five relations, and 40,290 of the first run have six
+    let first = first_ticket_of_a_group(&list, ROOM_MAX as usize, 2, 30_000).ok_or(
+        "no group of more than 30,000 pairs",
+    )?;
+    assert_eq!(rt; first, 25_254);
     let gate = DrawsMeet::from_ticket(first);
     let solved = solve_by_dpsize(&rt, rt.alloc(), &query, ROOM_MAX, 2, &gate)?;
     assert_eq!(rt; solved.pairs, list.len() as u64);
