@@ -11,7 +11,7 @@ mod shapes;
 mod sizes;
 mod words;
 
-use crate::{OpenGate, Status, dpe};
+use crate::{Gate, OpenGate, Status, dpe};
 use io_edge::{MemSink, MemSource};
 use std::alloc::{AllocError, Global};
 use std::thread::Threads;
@@ -25,6 +25,20 @@ fn words_of(alloc: Global, words: &[&str]) -> Result<Vec<String>, AllocError> {
     Ok(all)
 }
 
+/// The status, and the bytes that the sink took.
+fn run<R: Threads + Sync, G: Gate>(
+    rt: &R,
+    alloc: Global,
+    words: &[&str],
+    mut source: MemSource,
+    mut sink: MemSink,
+    gate: &G,
+) -> Result<(Status, Vec<u8>), AllocError> {
+    let words = words_of(alloc, words)?;
+    let status = dpe(rt, alloc, words.as_slice(), &mut source, &mut sink, gate);
+    Ok((status, sink.written().to_vec(alloc)?))
+}
+
 /// The status and the bytes of the answer, where neither end fails.
 fn answer<R: Threads + Sync>(
     rt: &R,
@@ -32,16 +46,7 @@ fn answer<R: Threads + Sync>(
     words: &[&str],
     bytes: Vec<u8>,
 ) -> Result<(Status, Vec<u8>), AllocError> {
-    let words = words_of(alloc, words)?;
-    let mut source = MemSource::new(bytes, 64, Vec::new(alloc));
-    let mut sink = MemSink::new(alloc, 8192, 64, Vec::new(alloc))?;
-    let status = dpe(
-        rt,
-        alloc,
-        words.as_slice(),
-        &mut source,
-        &mut sink,
-        &OpenGate,
-    );
-    Ok((status, sink.written().to_vec(alloc)?))
+    let source = MemSource::new(bytes, 64, Vec::new(alloc));
+    let sink = MemSink::new(alloc, 8192, 64, Vec::new(alloc))?;
+    run(rt, alloc, words, source, sink, &OpenGate)
 }

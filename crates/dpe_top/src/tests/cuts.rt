@@ -1,22 +1,16 @@
 //! Workloads that are cut or nested too deep, and names that are none.
 use super::answer;
+use super::plans::BOTH;
 use crate::Status;
 use std::alloc::{AllocError, Global};
 use std::test::Fail;
-
-const WORKLOAD: &str =
-    "{\"tables\":[{\"name\":\"a\",\"rows\":1000,\"columns\":[{\"name\":\"k\",\"distinct\":100}]},\
-{\"name\":\"b\",\"rows\":1000,\"columns\":[{\"name\":\"k\",\"distinct\":50}]}],\
-\"queries\":[{\"name\":\"both\",\"relations\":[{\"alias\":\"a\",\"table\":\"a\"},{\"alias\":\"b\",\"table\":\"b\"}],\
-\"joins\":[{\"left\":\"a\",\"right\":\"b\",\"left_column\":\"k\",\"right_column\":\"k\"},\
-{\"left\":\"a\",\"right\":\"b\",\"selectivity\":[1,10]}]}]}";
 
 const NOT_JSON: &str = "input: not JSON\n";
 
 #[test]
 fn a_workload_that_is_cut_is_not_json(rt: HostRuntime) -> Result<(), Fail> {
     let alloc = rt.alloc();
-    let bytes = WORKLOAD.as_bytes();
+    let bytes = BOTH.as_bytes();
     for n in 0..bytes.len() {
         let cut = bytes[..n].to_vec(alloc)?;
         let (status, written) = answer(&rt, alloc, &[], cut)?;

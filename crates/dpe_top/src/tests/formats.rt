@@ -1,6 +1,6 @@
 use super::answer;
 use super::files::{file_of, numbered_file};
-use super::plans::TRADE;
+use super::plans::{TRADE, TRADE_REPORT};
 use super::refusals::SPLIT_AND_EVEN;
 use crate::Status;
 use std::test::Fail;
@@ -63,6 +63,8 @@ fn statistics_of_small_runs(rt: HostRuntime) -> Result<(), Fail> {
         1,
         &[(0, 1), (0, 2), (0, 3), (1, 2), (1, 3), (2, 3)],
     )?;
+    let mut trade = String::from_str(alloc, TRADE_REPORT)?;
+    trade.push_str("stats dpsva buffer 4096 buffers 1 rounds 5 probes 150\n")?;
     let cases: [(&[&str], &str, &str); 4] = [
         (
             &["--stats", "on"],
@@ -82,7 +84,7 @@ fn statistics_of_small_runs(rt: HostRuntime) -> Result<(), Fail> {
         (
             &["--workers", "64", "--enumerator", "dpsva", "--stats", "on"],
             TRADE,
-            "query top\ncost 7160040 rows 120000 pairs 35\nhash rows 120000 cost 7160040\n  hash rows 120000 cost 6600040\n    hash rows 30000 cost 420040\n      hash rows 30000 cost 180040\n        loop rows 5 cost 30\n          scan r rows 1\n          scan n rows 25\n        scan c rows 150000\n      scan o rows 150000\n    scan l rows 6000000\n  scan p rows 200000\nstats dpsva buffer 4096 buffers 1 rounds 5 probes 150\n",
+            trade.as_str(),
         ),
     ];
     for (words, file, text) in cases {

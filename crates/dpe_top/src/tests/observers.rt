@@ -1,8 +1,8 @@
 //! What a gate sees of a run with two workers over the clique of ten relations, which has 28,501 pairs.
 use super::gates::{DrawMeetsFilling, DrawsMeet, Tally};
+use super::run;
 use super::shapes::{clique_joins, clique_of_ten, one_by_one, shape_file};
-use super::words_of;
-use crate::{Gate, Status, dpe};
+use crate::{Gate, Status};
 use io_edge::{MemSink, MemSource};
 use std::alloc::Global;
 use std::test::Fail;
@@ -19,11 +19,10 @@ fn is_planned_under<R: Threads + Sync, G: Gate>(
     let shape = clique_of_ten(joins.as_slice());
     let file = shape_file(alloc, &shape)?;
     let report = one_by_one(alloc, &shape)?;
-    let words = words_of(alloc, words)?;
-    let mut source = MemSource::new(file.into_bytes(), 64, Vec::new(alloc));
-    let mut sink = MemSink::new(alloc, 8192, 64, Vec::new(alloc))?;
-    let status = dpe(rt, alloc, words.as_slice(), &mut source, &mut sink, gate);
-    Ok(status == Status::Done && sink.written() == report.as_bytes())
+    let source = MemSource::new(file.into_bytes(), 64, Vec::new(alloc));
+    let sink = MemSink::new(alloc, 8192, 64, Vec::new(alloc))?;
+    let (status, written) = run(rt, alloc, words, source, sink, gate)?;
+    Ok(status == Status::Done && written.as_slice() == report.as_bytes())
 }
 
 #[test]

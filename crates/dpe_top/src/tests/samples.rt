@@ -1,5 +1,5 @@
-use super::words_of;
-use crate::{OpenGate, Status, dpe};
+use super::run;
+use crate::{OpenGate, Status};
 use io_edge::{MemSink, MemSource};
 use std::alloc::{AllocError, Global};
 use std::test::Fail;
@@ -11,19 +11,10 @@ fn answer_unread<R: Threads + Sync>(
     alloc: Global,
     words: &[&str],
 ) -> Result<(Status, Vec<u8>), AllocError> {
-    let words = words_of(alloc, words)?;
     let fails: [u64; 2] = [0, 1];
-    let mut source = MemSource::new(Vec::new(alloc), 64, fails.to_vec(alloc)?);
-    let mut sink = MemSink::new(alloc, 256, 64, Vec::new(alloc))?;
-    let status = dpe(
-        rt,
-        alloc,
-        words.as_slice(),
-        &mut source,
-        &mut sink,
-        &OpenGate,
-    );
-    Ok((status, sink.written().to_vec(alloc)?))
+    let source = MemSource::new(Vec::new(alloc), 64, fails.to_vec(alloc)?);
+    let sink = MemSink::new(alloc, 256, 64, Vec::new(alloc))?;
+    run(rt, alloc, words, source, sink, &OpenGate)
 }
 
 const SEVEN: &str = "sample 7 queries 8 relations 53 joins 52 pairs 2636 cost 29624337\n";
@@ -137,19 +128,12 @@ fn ignored_options_are_of_their_table(rt: HostRuntime) -> Result<(), Fail> {
 #[test]
 fn a_sink_that_fails_gets_a_part_of_the_sample(rt: HostRuntime) -> Result<(), Fail> {
     let alloc = rt.alloc();
-    let words = words_of(alloc, &["--mode", "sample", "--number", "7"])?;
+    let words = ["--mode", "sample", "--number", "7"];
     let fails: [u64; 1] = [2];
-    let mut source = MemSource::new(Vec::new(alloc), 64, Vec::new(alloc));
-    let mut sink = MemSink::new(alloc, 256, 4, fails.to_vec(alloc)?)?;
-    let status = dpe(
-        &rt,
-        alloc,
-        words.as_slice(),
-        &mut source,
-        &mut sink,
-        &OpenGate,
-    );
+    let source = MemSource::new(Vec::new(alloc), 64, Vec::new(alloc));
+    let sink = MemSink::new(alloc, 256, 4, fails.to_vec(alloc)?)?;
+    let (status, written) = run(&rt, alloc, &words, source, sink, &OpenGate)?;
     assert_eq!(rt; status, Status::WriteFault);
-    assert_eq!(rt; sink.written(), "sample 7".as_bytes());
+    assert_eq!(rt; written.as_slice(), "sample 7".as_bytes());
     Ok(())
 }

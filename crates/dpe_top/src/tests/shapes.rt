@@ -16,10 +16,10 @@ static WORDS: [&[&str]; 7] = [
     &["--buffer", "65536", "--workers", "64"],
 ];
 
-/// As many rounds as pairs, and a thread for each pair but the first.
+/// As many rounds as pairs, and a thread for each pair, since each full buffer starts the filling of the next.
 static ONE_BY_ONE: [&[&str]; 1] = [&["--buffer", "1", "--workers", "64"]];
 
-/// The same of a star, whose 245,760 threads would take too long.
+/// For a star, whose 245,760 pairs would take too long one by one: a thread for sixteen of them.
 static FEW_BY_FEW: [&[&str]; 1] = [&["--buffer", "16", "--workers", "64"]];
 
 /// A query over relations of as many rows each, with joins that keep all. Its plan joins one relation after the
@@ -70,7 +70,7 @@ pub fn one_by_one(alloc: Global, shape: &Shape) -> Result<String, AllocError> {
     Ok(text)
 }
 
-/// The shape's report is the same with all these words, which don't show in it.
+/// Whether the shape's report is the same with all these words, which don't show in it.
 fn is_planned_alike<R: Threads + Sync>(
     rt: &R,
     alloc: Global,
@@ -114,8 +114,8 @@ fn a_chain_of_sixteen(rt: HostRuntime) -> Result<(), Fail> {
         step: 2,
         pairs: 680,
     };
-    assert_eq!(rt; is_planned_alike(&rt, alloc, &shape, &WORDS)?, true);
-    assert_eq!(rt; is_planned_alike(&rt, alloc, &shape, &ONE_BY_ONE)?, true);
+    assert!(rt; is_planned_alike(&rt, alloc, &shape, &WORDS)?);
+    assert!(rt; is_planned_alike(&rt, alloc, &shape, &ONE_BY_ONE)?);
     Ok(())
 }
 
@@ -134,8 +134,8 @@ fn a_chain_of_great_tables(rt: HostRuntime) -> Result<(), Fail> {
         step: 4 * many,
         pairs: 680,
     };
-    assert_eq!(rt; is_planned_alike(&rt, alloc, &shape, &WORDS)?, true);
-    assert_eq!(rt; is_planned_alike(&rt, alloc, &shape, &ONE_BY_ONE)?, true);
+    assert!(rt; is_planned_alike(&rt, alloc, &shape, &WORDS)?);
+    assert!(rt; is_planned_alike(&rt, alloc, &shape, &ONE_BY_ONE)?);
     Ok(())
 }
 
@@ -158,8 +158,8 @@ fn a_cycle_of_sixteen(rt: HostRuntime) -> Result<(), Fail> {
         step: 2,
         pairs: 1800,
     };
-    assert_eq!(rt; is_planned_alike(&rt, alloc, &shape, &WORDS)?, true);
-    assert_eq!(rt; is_planned_alike(&rt, alloc, &shape, &ONE_BY_ONE)?, true);
+    assert!(rt; is_planned_alike(&rt, alloc, &shape, &WORDS)?);
+    assert!(rt; is_planned_alike(&rt, alloc, &shape, &ONE_BY_ONE)?);
     Ok(())
 }
 
@@ -180,8 +180,8 @@ fn a_star_of_sixteen(rt: HostRuntime) -> Result<(), Fail> {
         step: 2,
         pairs: 245_760,
     };
-    assert_eq!(rt; is_planned_alike(&rt, alloc, &shape, &WORDS)?, true);
-    assert_eq!(rt; is_planned_alike(&rt, alloc, &shape, &FEW_BY_FEW)?, true);
+    assert!(rt; is_planned_alike(&rt, alloc, &shape, &WORDS)?);
+    assert!(rt; is_planned_alike(&rt, alloc, &shape, &FEW_BY_FEW)?);
     Ok(())
 }
 
@@ -215,7 +215,7 @@ fn a_clique_of_ten_relations(rt: HostRuntime) -> Result<(), Fail> {
     let alloc = rt.alloc();
     let joins = clique_joins(alloc)?;
     let shape = clique_of_ten(joins.as_slice());
-    assert_eq!(rt; is_planned_alike(&rt, alloc, &shape, &WORDS)?, true);
-    assert_eq!(rt; is_planned_alike(&rt, alloc, &shape, &ONE_BY_ONE)?, true);
+    assert!(rt; is_planned_alike(&rt, alloc, &shape, &WORDS)?);
+    assert!(rt; is_planned_alike(&rt, alloc, &shape, &ONE_BY_ONE)?);
     Ok(())
 }

@@ -1,7 +1,7 @@
 //! The largest workloads: a dense query, and the most entries.
 use super::files::numbered_file;
-use super::words_of;
-use crate::{OpenGate, Status, dpe};
+use super::run;
+use crate::{OpenGate, Status};
 use io_edge::{MemSink, MemSource};
 use std::alloc::{AllocError, Global};
 use std::test::Fail;
@@ -14,18 +14,9 @@ fn long_answer<R: Threads + Sync>(
     words: &[&str],
     file: String,
 ) -> Result<(Status, Vec<u8>), AllocError> {
-    let words = words_of(alloc, words)?;
-    let mut source = MemSource::new(file.into_bytes(), 4096, Vec::new(alloc));
-    let mut sink = MemSink::new(alloc, 262_144, 4096, Vec::new(alloc))?;
-    let status = dpe(
-        rt,
-        alloc,
-        words.as_slice(),
-        &mut source,
-        &mut sink,
-        &OpenGate,
-    );
-    Ok((status, sink.written().to_vec(alloc)?))
+    let source = MemSource::new(file.into_bytes(), 4096, Vec::new(alloc));
+    let sink = MemSink::new(alloc, 262_144, 4096, Vec::new(alloc))?;
+    run(rt, alloc, words, source, sink, &OpenGate)
 }
 
 #[test]
