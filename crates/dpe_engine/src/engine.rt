@@ -102,7 +102,7 @@ fn work_last_buffer<P: PairStream, M: CostModel, G: Gate, R: Threads + Sync>(
 {
     let Progress {
         stream,
-        mut full,
+        full: mut last,
         next: _,
         mut crew,
         mut seat,
@@ -111,9 +111,9 @@ fn work_last_buffer<P: PairStream, M: CostModel, G: Gate, R: Threads + Sync>(
         rounds,
     } = progress;
     let rounds = work_groups(
-        rt, shared, gate, pairs, rounds, &mut full, &mut crew, &mut seat,
+        rt, shared, gate, pairs, rounds, &mut last, &mut crew, &mut seat,
     );
-    let count = full.len() as u64;
+    let count = last.len() as u64;
     Ended {
         stream,
         seat,

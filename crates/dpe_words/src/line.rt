@@ -57,6 +57,19 @@ fn texts_in<'a>(alloc: Global, line: &'a [&'a str]) -> Result<Texts<'a>, WordFau
     }
 }
 
+// How many pairs a buffer has room for.
+const BUFFER_MIN: u32 = 1;
+
+const BUFFER_MAX: u32 = 65536;
+
+const BUFFER_DEFAULT: u32 = 4096;
+
+const WORKERS_MIN: u32 = 1;
+
+const WORKERS_MAX: u32 = 64;
+
+const WORKERS_DEFAULT: u32 = 4;
+
 /// What the values ask for, where each stands in its table.
 #[tactic(auto, unfolding(crate::specs::Line::settings_by), using(crate::proofs::Numbers::in_range))]
 fn settings_in(texts: &Texts) -> Option<Settings>
@@ -65,8 +78,8 @@ fn settings_in(texts: &Texts) -> Option<Settings>
 {
     let mode = mode_of(texts.mode)?;
     let enumerator = enumerator_of(texts.enumerator)?;
-    let buffer = small_number_in(texts.buffer, 1, 65536, 4096)?;
-    let workers = small_number_in(texts.workers, 1, 64, 4)?;
+    let buffer = small_number_in(texts.buffer, BUFFER_MIN, BUFFER_MAX, BUFFER_DEFAULT)?;
+    let workers = small_number_in(texts.workers, WORKERS_MIN, WORKERS_MAX, WORKERS_DEFAULT)?;
     let model = model_of(texts.model)?;
     let format = format_of(texts.format)?;
     let stats = stats_of(texts.stats)?;
@@ -85,6 +98,8 @@ fn settings_in(texts: &Texts) -> Option<Settings>
 
 /// What the words after the program's name ask for. `WordFault::Usage` comes exactly where they are
 /// no command line.
+///
+/// Fails with `WordFault::NoMemory` where there is no memory.
 #[tactic(auto, unfolding(crate::specs::Line::settings_of))]
 pub fn settings(alloc: Global, words: &[String]) -> Result<Settings, WordFault>
     ensures told { IsSaid result (settings_of (texts_of words.now)) }

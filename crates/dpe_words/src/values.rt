@@ -93,6 +93,9 @@ fn is_all_digits(bytes: &[u8]) -> bool
     bytes.iter().all(|b| b.is_ascii_digit())
 }
 
+// u64::MAX has so many.
+const DIGITS_MAX: usize = 20;
+
 #[tactic(auto, using(crate::proofs::Numbers::parsed, crate::proofs::Numbers::too_short, crate::proofs::Numbers::too_long, crate::proofs::Numbers::no_digits))]
 fn value_of(text: &str) -> Option<u64>
     ensures { result ≡ from_to 0 u64.MAX (written_number text.now) }
@@ -100,7 +103,7 @@ fn value_of(text: &str) -> Option<u64>
     if text.is_empty() {
         return None;
     }
-    if text.len() > 20 {
+    if text.len() > DIGITS_MAX {
         return None;
     }
     if !is_all_digits(text.as_bytes()) {

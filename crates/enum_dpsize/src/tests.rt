@@ -105,7 +105,7 @@ fn first_other(alloc: Global, shape: Shape, table: &[(usize, usize)]) -> Result<
 }
 
 #[test]
-fn counts(rt: HostRuntime) -> Result<(), Fail> {
+fn pairs_and_sets_are_as_many_as_known(rt: HostRuntime) -> Result<(), Fail> {
     let chain = [
         (1, 3),
         (4, 6),
@@ -169,7 +169,7 @@ fn same_list_by_skips(rt: HostRuntime) -> Result<(), Fail> {
 }
 
 #[test]
-fn probes(rt: HostRuntime) -> Result<(), Fail> {
+fn dpsva_takes_the_known_probes(rt: HostRuntime) -> Result<(), Fail> {
     for (shape, n, want) in [
         (Shape::Clique, 4, 53),
         (Shape::Chain, 6, 150),

@@ -75,6 +75,8 @@ impl<M: CostModel> Memo<M> {
 
     /// A memo of the query and of the pairs that the stream has left, and its first seat. The stream is only named.
     /// The word of each relation alone is in place. It takes all memory that `finish` needs.
+    ///
+    /// Fails where there is no memory.
     pub fn make<P: PairStream>(
         alloc: Global,
         query: &Query,

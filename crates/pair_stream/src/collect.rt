@@ -30,6 +30,8 @@ fn collect_counting<L: Ledger, S: PairStream>(
 }
 
 /// All pairs that `stream` has left, in order. The stream has ended then.
+///
+/// Fails where there is no memory; the pairs taken until then are lost.
 pub fn collect_pairs<S: PairStream>(alloc: Global, stream: &mut S) -> Result<Vec<Pair>, AllocError>
     ensures pairs { IfOk result (λ v. v.items ≡ S.left stream.old) }
     ensures end { OnOk result (IsTrue (S.ended stream.new)) }

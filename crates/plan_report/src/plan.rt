@@ -57,6 +57,8 @@ fn joined(alloc: Global, op: u8, left: Tree, right: Tree) -> Result<Tree, AllocE
 }
 
 /// The plan of the relations of `s`: the word of each set names the operator and the left side of its root.
+///
+/// Fails where there is no memory.
 pub fn build<M: CostModel>(
     alloc: Global,
     query: &Query,

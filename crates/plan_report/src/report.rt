@@ -149,6 +149,8 @@ impl Report {
     }
 
     /// The line of all entries, of a report that is JSON.
+    ///
+    /// Fails where there is no memory.
     pub fn json(self) -> Result<Vec<u8>, AllocError>
         requires { format_of self ≡ Format.Json }
         ensures { IfOk result (λ v. v.items ≡ report_line (entries_in self)) }

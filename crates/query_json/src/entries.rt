@@ -120,7 +120,7 @@ fn entry_of(alloc: Global, tables: &Tables, item: &QueryItem) -> Result<Entry, A
             aliases: aliases_of(alloc, item.relations.as_slice())?,
         }),
         Err(Stop::Refused(refusal)) => Part::Refused(refusal),
-        Err(Stop::Memory) => return Err(AllocError),
+        Err(Stop::NoMemory) => return Err(AllocError),
     };
     let name = item.name.to_name(alloc)?;
     Ok(Entry { name, part })

@@ -14,7 +14,7 @@ use crate::file::Ratio;
 use crate::items::Items;
 use crate::label::Label;
 use crate::place::Place;
-use crate::tree::{is_null, is_object, items_of, text_of, whole_of as number_of};
+use crate::tree::{is_null, is_object, items_of, text_of, whole_number};
 use json::Value;
 use std::alloc::Global;
 
@@ -62,7 +62,7 @@ pub fn name_of<'v, 'a>(member: Option<&'v Value<'a>>, place: Place) -> Result<La
 pub fn whole_of(member: Option<&Value>, limit: u64, place: Place) -> Result<u64, FileFault>
     ensures { Gives result (required (as_whole limit) place (option_map (λ v. seen v.now) member.entry)) }
 {
-    match member.and_then(number_of) {
+    match member.and_then(whole_number) {
         Some(number) if number <= limit => Ok(number),
         _ => Err(FileFault::Shape(place)),
     }
@@ -123,7 +123,7 @@ pub fn version_of(member: Option<&Value>, place: Place) -> Result<Option<u64>, F
     let Some(value) = present(member) else {
         return Ok(None);
     };
-    match number_of(value) {
+    match whole_number(value) {
         Some(number) if number == 1 => Ok(Some(number)),
         _ => Err(FileFault::Shape(place)),
     }
@@ -151,8 +151,8 @@ fn ratio_of(values: &[Value]) -> Option<Ratio>
 {
     match values {
         [first, second] => {
-            let num = number_of(first)?;
-            let den = number_of(second)?;
+            let num = whole_number(first)?;
+            let den = whole_number(second)?;
             Some(Ratio { num, den })
         }
         _ => None,

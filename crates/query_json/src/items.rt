@@ -23,7 +23,7 @@ impl<T> Model for Items<T> {
 
 impl<T> Items<T> {
     /// An empty list. It takes no memory.
-    pub fn new(alloc: Global) -> Items<T>
+    pub(crate) fn new(alloc: Global) -> Items<T>
         ensures { result ≡ [] }
     {
         Items {
@@ -62,7 +62,7 @@ impl<T> Items<T> {
 
 impl<T: Drop> Items<T> {
     /// An empty list with room for so many elements.
-    pub fn with_capacity(alloc: Global, room: usize) -> Result<Items<T>, AllocError>
+    pub(crate) fn with_capacity(alloc: Global, room: usize) -> Result<Items<T>, AllocError>
         ensures { IfOk result (λ it. it ≡ []) }
     {
         Ok(Items {
@@ -71,7 +71,7 @@ impl<T: Drop> Items<T> {
     }
 
     /// Puts an element at the end. Without memory the list stays as it was.
-    pub fn push(&mut self, item: T) -> Result<(), AllocError>
+    pub(crate) fn push(&mut self, item: T) -> Result<(), AllocError>
         ensures ok { OnOk result (self.new ≡ self.old ++ item ∷ []) }
         ensures err { OnErr result (self.new ≡ self.old) }
     {

@@ -20,29 +20,29 @@ pub trait HasName {
 /// A name stands twice, or memory ran out.
 #[derive(Debug, Drop)]
 pub enum Repeat {
-    Memory,
+    NoMemory,
     Name(Name),
 }
 
 impl From<AllocError> for Repeat {
     ghost use Rattle.std.specs.Prelude.{◌≡◌};
-    ghost use Rattle.query_json.specs.declared.names.Repeat.TheVariants.{Memory};
+    ghost use Rattle.query_json.specs.declared.names.Repeat.TheVariants.{NoMemory};
 
-    ghost from_gives = { λ _ e. e ≡ Memory };
+    ghost from_gives = { λ _ e. e ≡ NoMemory };
 
     fn from(_: AllocError) -> Self {
-        Repeat::Memory
+        Repeat::NoMemory
     }
 }
 
 impl<T: Drop> From<AllocFailed<T>> for Repeat {
     ghost use Rattle.std.specs.Prelude.{◌≡◌};
-    ghost use Rattle.query_json.specs.declared.names.Repeat.TheVariants.{Memory};
+    ghost use Rattle.query_json.specs.declared.names.Repeat.TheVariants.{NoMemory};
 
-    ghost from_gives = { λ _ e. e ≡ Memory };
+    ghost from_gives = { λ _ e. e ≡ NoMemory };
 
     fn from(_: AllocFailed<T>) -> Self {
-        Repeat::Memory
+        Repeat::NoMemory
     }
 }
 
@@ -60,8 +60,8 @@ pub fn distinct<'a, T: HasName>(alloc: Global, items: &'a [T]) -> Result<IndexSe
     Ok(names)
 }
 
-/// The number of a name.
-pub fn number_of(names: &IndexSet<&str>, name: &str) -> Option<usize>
+/// The place of a name.
+pub fn place_of(names: &IndexSet<&str>, name: &str) -> Option<usize>
     ensures { result ≡ position (bytes_eq name.now) (map (λ k. k.now) names.now.keys) }
 {
     names.get_index_of(name)

@@ -42,7 +42,7 @@ pub fn alias_names<'t, 'a>(
 {
     match distinct(alloc, relations) {
         Ok(names) => Ok(names),
-        Err(Repeat::Memory) => Err(Stop::Memory),
+        Err(Repeat::NoMemory) => Err(Stop::NoMemory),
         Err(Repeat::Name(name)) => Err(Stop::Refused(QueryRefusal::DuplicateAlias(name))),
     }
 }

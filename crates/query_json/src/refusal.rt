@@ -1,6 +1,6 @@
 //! Why a query is refused.
 ghost use Rattle.std.specs.Prelude.{◌≡◌};
-ghost use Rattle.query_json.specs.declared.refusal.Stop.TheVariants.{Memory};
+ghost use Rattle.query_json.specs.declared.refusal.Stop.TheVariants.{NoMemory};
 
 use dpe_base::Name;
 use std::alloc::{AllocError, AllocFailed};
@@ -40,22 +40,22 @@ pub enum QueryRefusal {
 /// A query is refused, or memory ran out.
 #[derive(Debug, Drop)]
 pub enum Stop {
-    Memory,
+    NoMemory,
     Refused(QueryRefusal),
 }
 
 impl From<AllocError> for Stop {
-    ghost from_gives = { λ _ e. e ≡ Memory };
+    ghost from_gives = { λ _ e. e ≡ NoMemory };
 
     fn from(_: AllocError) -> Self {
-        Stop::Memory
+        Stop::NoMemory
     }
 }
 
 impl<T: Drop> From<AllocFailed<T>> for Stop {
-    ghost from_gives = { λ _ e. e ≡ Memory };
+    ghost from_gives = { λ _ e. e ≡ NoMemory };
 
     fn from(_: AllocFailed<T>) -> Self {
-        Stop::Memory
+        Stop::NoMemory
     }
 }

@@ -6,7 +6,7 @@ ghost use Rattle.query_json.specs.Queries.{count_named, count_of, ends_of, most_
 
 use crate::file::{JoinItem, RelationItem};
 use crate::label::Label;
-use crate::names::number_of;
+use crate::names::place_of;
 use crate::refusal::{QueryRefusal, Stop};
 use crate::tables::Tables;
 use indexmap::IndexSet;
@@ -59,7 +59,7 @@ impl<'t, 'a> Scope<'t, 'a> {
     fn number(&self, alloc: Global, alias: &Label) -> Result<usize, Stop>
         ensures { Tells (λ n. n) result (relation_number self.now.relations (UnknownAlias alias.now) alias.now) }
     {
-        match number_of(&self.aliases, alias.text()) {
+        match place_of(&self.aliases, alias.text()) {
             Some(number) => Ok(number),
             None => {
                 let alias = alias.to_name(alloc)?;
@@ -80,7 +80,7 @@ impl<'t, 'a> Scope<'t, 'a> {
     fn count_named(&self, alias: &Label, column: &Label) -> Option<u64>
         ensures { result ≡ count_named self.now.tables self.now.relations alias.now column.now }
     {
-        let number = number_of(&self.aliases, alias.text())?;
+        let number = place_of(&self.aliases, alias.text())?;
         let relation = self.relations.get(number)?;
         self.tables.distinct(relation.table.text(), column.text())
     }

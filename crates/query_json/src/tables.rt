@@ -8,7 +8,7 @@ ghost use Rattle.query_json.specs.Queries.{table_named};
 use crate::columns::Columns;
 use crate::fault::FileFault;
 use crate::file::Table;
-use crate::names::{HasName, Repeat, distinct, number_of};
+use crate::names::{HasName, Repeat, distinct, place_of};
 use indexmap::IndexSet;
 use std::alloc::{AllocError, Global};
 use std::marker::Model;
@@ -63,7 +63,7 @@ fn table_names<'t, 'a>(
 {
     match distinct(alloc, tables) {
         Ok(names) => Ok(names),
-        Err(Repeat::Memory) => Err(FileFault::NoMemory),
+        Err(Repeat::NoMemory) => Err(FileFault::NoMemory),
         Err(Repeat::Name(name)) => Err(FileFault::DuplicateTable(name)),
     }
 }
@@ -87,7 +87,7 @@ impl<'t, 'a> Tables<'t, 'a> {
     pub fn named(&self, name: &str) -> Option<&'t Table<'a>>
         ensures { option_map (λ t. t.now) result ≡ table_named self.now name.now }
     {
-        let number = number_of(&self.names, name)?;
+        let number = place_of(&self.names, name)?;
         self.tables.get(number)
     }
 
@@ -95,7 +95,7 @@ impl<'t, 'a> Tables<'t, 'a> {
     pub fn distinct(&self, table: &str, column: &str) -> Option<u64>
         ensures { result ≡ option_and_then (λ t. distinct_in column.now t.columns) (table_named self.now table.now) }
     {
-        let number = number_of(&self.names, table)?;
+        let number = place_of(&self.names, table)?;
         let columns = self.columns.get(number)?;
         columns.distinct(column)
     }

@@ -288,7 +288,7 @@ fn accepted_queries(rt: HostRuntime) -> Result<(), Fail> {
 }
 
 #[test]
-fn readings(rt: HostRuntime) -> Result<(), Fail> {
+fn the_first_fault_counts(rt: HostRuntime) -> Result<(), Fail> {
     let alloc = rt.alloc();
     let name = repeated(alloc, "n", 64)?;
     let rows = [
@@ -374,13 +374,19 @@ fn nested(alloc: Global, depth: u32) -> Result<String, AllocError> {
 }
 
 #[test]
-fn limits(rt: HostRuntime) -> Result<(), Fail> {
+fn deep_nesting_is_not_json(rt: HostRuntime) -> Result<(), Fail> {
     let alloc = rt.alloc();
     for (depth, wanted) in [(126, ""), (127, "not JSON"), (200, "not JSON")] {
         let file = nested(alloc, depth)?;
         let found = outcome(alloc, file.as_bytes())?;
         assert_eq!(rt; found.as_str(), wanted, "at {depth}");
     }
+    Ok(())
+}
+
+#[test]
+fn too_many_tables_or_queries(rt: HostRuntime) -> Result<(), Fail> {
+    let alloc = rt.alloc();
     let table = r#"{"name":"a","rows":1}"#;
     let query = r#"{"name":"q","relations":[]}"#;
     for (t, q, wanted) in [
@@ -394,6 +400,12 @@ fn limits(rt: HostRuntime) -> Result<(), Fail> {
         let found = outcome(alloc, file.as_bytes())?;
         assert_eq!(rt; found.as_str(), wanted);
     }
+    Ok(())
+}
+
+#[test]
+fn too_many_columns_of_a_table(rt: HostRuntime) -> Result<(), Fail> {
+    let alloc = rt.alloc();
     for (n, wanted) in [(4096, ""), (4097, "$.tables[0].columns")] {
         let columns = repeated(alloc, r#"{"name":"k","distinct":1}"#, n)?;
         let file = format!(in alloc;
@@ -402,6 +414,12 @@ fn limits(rt: HostRuntime) -> Result<(), Fail> {
         let found = outcome(alloc, file.as_bytes())?;
         assert_eq!(rt; found.as_str(), wanted, "at {n}");
     }
+    Ok(())
+}
+
+#[test]
+fn too_many_joins_of_a_query(rt: HostRuntime) -> Result<(), Fail> {
+    let alloc = rt.alloc();
     for (n, wanted) in [(1024, "q: 1 no relations\n"), (1025, "$.queries[0].joins")] {
         let joins = repeated(alloc, r#"{"left":"a","right":"b","selectivity":[1,2]}"#, n)?;
         let file = format!(in alloc;

@@ -7,7 +7,9 @@ use crate::refusal::{FracPlace, QueryRefusal};
 use dpe_base::Name;
 use std::alloc::AllocError;
 
-/// Writes a place as a path from the root of the file, like `$.queries[0].joins[2].left`.
+/// Writes a place as a path from the root of the file, like `$.queries[0].joins[2].left`, at the end of `out`.
+///
+/// Fails where there is no memory. What `out` then holds is left open.
 pub fn write_path(out: &mut String, place: Place) -> Result<(), AllocError>
     ensures { OnOk result (string_bytes out.new ≡ string_bytes out.old ++ path_of place) }
 {
@@ -80,7 +82,9 @@ fn write_frac_place(out: &mut String, before: &str, place: FracPlace) -> Result<
     }
 }
 
-/// Writes a refusal in words.
+/// Writes a refusal in words, at the end of `out`.
+///
+/// Fails where there is no memory. What `out` then holds is left open.
 #[tactic(auto, unfolding(crate::specs::Texts::refusal_text))]
 pub fn write_refusal(out: &mut String, refusal: &QueryRefusal) -> Result<(), AllocError>
     ensures { OnOk result (string_bytes out.new ≡ string_bytes out.old ++ refusal_text refusal.now) }

@@ -121,7 +121,7 @@ pub fn text_of<'a>(value: &Value<'a>) -> Option<&'a str>
 }
 
 /// The value of a whole number from 0 below 2^64, which has no point and no exponent.
-pub fn whole_of(value: &Value) -> Option<u64>
+pub fn whole_number(value: &Value) -> Option<u64>
     ensures { result ≡ option_and_then as_u64 (as_number (seen value.now)) }
 {
     match value {

@@ -64,7 +64,10 @@ fn count(file: &File) -> Result<(), FileFault>
     Ok(())
 }
 
-/// Reads the text of a workload file.
+/// Reads the text of a workload file: one entry for each of its queries, in order.
+///
+/// Fails with the first fault of the text, in this order: it is not JSON, a place breaks the format, there are too many
+/// tables, there are too many queries, a table has the name of an earlier one. Fails also where there is no memory.
 #[tactic(auto, unfolding(crate::specs::Entries::entries_of))]
 pub fn read(alloc: Global, bytes: &[u8]) -> Result<Workload, FileFault>
     ensures { Gives result (entries_of bytes.now) }

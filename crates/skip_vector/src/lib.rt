@@ -6,6 +6,8 @@ pub mod laws;
 mod prefix;
 mod scan;
 mod skip_part;
+#[cfg(test)]
+mod tests;
 
 pub use scan::Free;
 pub use skip_part::SkipPart;

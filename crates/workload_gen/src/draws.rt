@@ -1,10 +1,24 @@
 ghost use Rattle.std.specs.Prelude.{◌≡◌, ◌≤◌, ◌<◌, ◌+◌, ◌-◌, ◌^◌, IfOk};
 ghost use Rattle.workload_gen.specs.Draws.{draw_each, extra_join, extra_joins, joins_tried, pick, pick_from, query, relation, table, tree_join};
 
-use crate::sample::{Join, QUERIES, Query, Relation, TABLES, Table};
+use crate::sample::{Join, KEPT_OF, QUERIES, Query, Relation, TABLES, Table};
 use rand_core::utils::NextWord;
 use rand_xoshiro::Xoshiro256PlusPlus;
 use std::alloc::{AllocError, Global};
+
+// The most rows of a table.
+const ROWS_MAX: u64 = 1_000_000;
+
+// The most pairs of which a further join keeps one.
+const ONE_IN_MAX: u64 = 1000;
+
+// How many numbers of tries at further joins there are: 0 to 3.
+const EXTRA_COUNTS: u64 = 4;
+
+// The fewest relations of a query, and how many numbers of them there are: 2 to 12.
+const N_MIN: u64 = 2;
+
+const N_COUNTS: u64 = 11;
 
 /// The remainder of the next word by `k`.
 fn pick(rng: &mut Xoshiro256PlusPlus, k: u64) -> u64
@@ -30,7 +44,7 @@ fn pick_from(rng: &mut Xoshiro256PlusPlus, low: u64, k: u64) -> u64
 fn table(rng: &mut Xoshiro256PlusPlus) -> Table
     ensures { (result, rng.new) ≡ table rng.old }
 {
-    let rows = pick_from(rng, 1, 1_000_000);
+    let rows = pick_from(rng, 1, ROWS_MAX);
     let distinct = pick_from(rng, 1, rows);
     Table { rows, distinct }
 }
@@ -41,7 +55,7 @@ fn relation(rng: &mut Xoshiro256PlusPlus) -> Relation
     ensures { (result, rng.new) ≡ relation rng.old }
 {
     let table = pick(rng, TABLES);
-    let kept = pick_from(rng, 1, 100);
+    let kept = pick_from(rng, 1, KEPT_OF);
     Relation { table, kept }
 }
 
@@ -69,7 +83,7 @@ fn extra_join(rng: &mut Xoshiro256PlusPlus, n: u64) -> Option<Join>
     if left == right {
         return None;
     }
-    let one_in = Some(pick_from(rng, 1, 1000));
+    let one_in = Some(pick_from(rng, 1, ONE_IN_MAX));
     Some(Join {
         left,
         right,
@@ -142,7 +156,7 @@ fn extra_joins(alloc: Global, rng: &mut Xoshiro256PlusPlus, n: u64) -> Result<Ve
     requires { 1 ≤ n }
     ensures { IfOk result (λ v. (v.items, rng.new) ≡ extra_joins n rng.old) }
 {
-    let count = pick(rng, 4);
+    let count = pick(rng, EXTRA_COUNTS);
     joins_tried(alloc, rng, n, count)
 }
 
@@ -151,7 +165,7 @@ fn extra_joins(alloc: Global, rng: &mut Xoshiro256PlusPlus, n: u64) -> Result<Ve
 fn query(alloc: Global, rng: &mut Xoshiro256PlusPlus) -> Result<Query, AllocError>
     ensures { IfOk result (λ q. (q, rng.new) ≡ query rng.old) }
 {
-    let n = pick_from(rng, 2, 11);
+    let n = pick_from(rng, N_MIN, N_COUNTS);
     let relations = relations(alloc, rng, n)?;
     let mut joins = tree_joins(alloc, rng, n)?;
     let mut extra = extra_joins(alloc, rng, n)?;

@@ -6,6 +6,9 @@ pub const TABLES: u64 = 8;
 /// How many queries a sample has.
 pub const QUERIES: u64 = 8;
 
+/// Of so many rows a filter says how many it keeps.
+pub const KEPT_OF: u64 = 100;
+
 /// A table: its rows, and the distinct values of its one column.
 #[derive(Clone, Copy)]
 pub struct Table {
@@ -13,7 +16,7 @@ pub struct Table {
     pub distinct: u64,
 }
 
-/// A relation: the number of its table, and how many of 100 rows its filter keeps.
+/// A relation: the number of its table, and how many of [`KEPT_OF`] rows its filter keeps.
 #[derive(Clone, Copy)]
 pub struct Relation {
     pub table: u64,

@@ -30,7 +30,7 @@ fn fingerprint(bytes: &[u8]) -> u64 {
 
 // Lengths, relations, joins and fingerprints are those of another program, written in Python.
 #[test]
-fn three_workloads(rt: HostRuntime) -> Result<(), Fail> {
+fn three_numbers_give_the_known_workloads(rt: HostRuntime) -> Result<(), Fail> {
     let alloc = rt.alloc();
     for (number, length, relations, joins, hash) in [
         (0u64, 7500usize, 59usize, 64usize, 0x4e42_3712_4bdd_6082u64),

@@ -3,7 +3,7 @@ ghost use Rattle.serde_json.specs.Data.{Data, array};
 ghost use Rattle.serde_json.specs.View.{view};
 ghost use Rattle.workload_gen.specs.Values.{join_value, query_value, relation_value, table_value, values};
 
-use crate::sample::{Join, Query, Relation, Table};
+use crate::sample::{Join, KEPT_OF, Query, Relation, Table};
 use serde_json::{Value, json};
 use std::alloc::{AllocError, Global};
 
@@ -38,7 +38,7 @@ impl Part for Relation {
         let table = self.table;
         let table = format!(in alloc; "t{table}")?;
         let kept = self.kept;
-        json!(in alloc; {"alias": alias, "table": table, "filter": [kept, 100u64]})
+        json!(in alloc; {"alias": alias, "table": table, "filter": [kept, KEPT_OF]})
     }
 }
 
