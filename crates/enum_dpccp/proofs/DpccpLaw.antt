@@ -3,7 +3,7 @@ use Rattle.std.proofs.Common.{◌≡◌, ◌≢◌, ◌↔◌, ℕ, suc, ◌≤�
 use Rattle.std.specs.List.{AllPairs, Contains}
 use Rattle.dpe_base.specs.declared.pair.Pair.{Pair}
 use Rattle.dpe_base.specs.Sets.{Has, Within, Disjoint, IsLeast, union, full, least}
-use Rattle.dpe_base.proofs.SetLaws.{full_has, full_limit, union_left, union_right, union_cases}
+use Rattle.dpe_base.proofs.SetLaws.{full_has, full_limit, union_left, union_right, union_cases, union_within}
 use Rattle.dpe_base.proofs.SizeLaws.{union_some}
 use Rattle.join_graph.specs.Graphs.{JoinGraph, IsGraph, Connected, Pairs, pair_of}
 use Rattle.pair_stream.specs.Orders.{Ordered, Complete}
@@ -45,11 +45,8 @@ module _ (g : JoinGraph) (ok : IsGraph g) where
       first : ℕ
       first = least (union p.a p.b)
 
-      within : Within (union p.a p.b) (full g.n)
-      within r m = elim (union_cases p.a p.b r m) [ inl x ↦ h.first.within r x | inr x ↦ h.second.within r x ]
-
       is_first : IsLeast (union p.a p.b) (least (union p.a p.b))
-      is_first = least_is (union p.a p.b) g.n within ok.few (union_some p.a p.b h.first.some)
+      is_first = least_is (union p.a p.b) g.n (union_within p.a p.b (full g.n) h.first.within h.second.within) ok.few (union_some p.a p.b h.first.some)
 
       own : IsLeast p.a (least p.a)
       own = connected_least g p.a ok h.first

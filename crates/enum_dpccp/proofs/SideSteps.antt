@@ -1,5 +1,5 @@
 -- What one step takes from the first sides, and from the second sides of one.
-use Rattle.std.proofs.Common.{◌≡◌, ◌≢◌, ℕ, zero, suc, ◌+◌, ◌-◌, ◌*◌, ◌/◌, ◌%◌, ◌^◌, ◌<◌, ◌≤◌, inl, inr, arith, refl, sym, ◌∙◌, ap, subst, Bool, cond, List, [], ◌∷◌, ◌++◌, nat_eq}
+use Rattle.std.proofs.Common.{add-one, ◌≡◌, ◌≢◌, ℕ, zero, suc, ◌+◌, ◌-◌, ◌*◌, ◌/◌, ◌%◌, ◌^◌, ◌<◌, ◌≤◌, inl, inr, arith, refl, sym, ◌∙◌, ap, subst, Bool, cond, List, [], ◌∷◌, ◌++◌, nat_eq}
 use Rattle.std.proofs.Math.Nat.{mul-le-mul_right, pow-suc}
 use Rattle.std.specs.Int.{bit_at}
 use Rattle.std.specs.Int.Count.{count_leading_zeros}
@@ -85,14 +85,11 @@ first_next g old now n i s x eo ne ei es ex en =
     ∙ ap (first_sides_below g) count
     ∙ first_below g i
     ∙ ap (λ (k : ℕ). k ∷ (all_extensions g k (full (suc i)) ++ first_sides_below g i)) (sym es)
-    ∙ ap (λ (k : ℕ). s ∷ (all_extensions g s k ++ first_sides_below g i)) (sym (ex ∙ ap full one_more))
+    ∙ ap (λ (k : ℕ). s ∷ (all_extensions g s k ++ first_sides_below g i)) (sym (ex ∙ ap full (add-one i)))
     ∙ ap (λ xs. s ∷ (xs ++ first_sides_below g i)) (sym en)
   where
     count : n ≡ suc i
     count = omega (arith, ne, ei)
-
-    one_more : i + 1 ≡ suc i
-    one_more = omega arith
 
 pub start_known : (g : JoinGraph) (i s : ℕ) → s ≡ single i → i < g.n → Within s (full g.n)
 start_known g i s e l r h = full_has g.n r (omega (arith, l, single_one i r (subst (λ (k : ℕ). Has k r) e h)))

@@ -5,8 +5,8 @@ use Rattle.std.proofs.lemmas.Bool.{cases_eq, cases_Bool, cases_lt, cond-true, co
 use Rattle.std.proofs.lemmas.List.Elements.{Contains-append_left, Contains-append_right, Contains-append_cases}
 use Rattle.std.proofs.lemmas.List.Kept.{AllPairs-filter}
 use Rattle.dpe_base.specs.declared.pair.Pair.{Pair}
-use Rattle.dpe_base.specs.Sets.{Has, Within, Disjoint, Meets, IsLeast, union, full, size, meets, least}
-use Rattle.dpe_base.proofs.SetLaws.{union_left, union_right, union_cases, union_comm}
+use Rattle.dpe_base.specs.Sets.{Has, Disjoint, Meets, IsLeast, union, full, size, meets, least}
+use Rattle.dpe_base.proofs.SetLaws.{union_left, union_right, union_cases, union_comm, union_within}
 use Rattle.dpe_base.proofs.SizeLaws.{size-union, size_none, size_full, union_some, some_member, meets_true}
 use Rattle.join_graph.specs.Graphs.{JoinGraph, IsGraph, Crossed, Connected, Pairs, pair_of}
 use Rattle.join_graph.proofs.GraphLaws.{crossed_back}
@@ -302,7 +302,7 @@ module _ (g : JoinGraph) (ok : IsGraph g) where
   first_smaller p h =
       let own : IsLeast p.a (least p.a) = connected_least g p.a ok h.first in
       let other : IsLeast p.b (least p.b) = connected_least g p.b ok h.second in
-      let f : IsLeast (union p.a p.b) (least (union p.a p.b)) = least_is (union p.a p.b) g.n within ok.few (union_some p.a p.b h.first.some) in
+      let f : IsLeast (union p.a p.b) (least (union p.a p.b)) = least_is (union p.a p.b) g.n (union_within p.a p.b (full g.n) h.first.within h.second.within) ok.few (union_some p.a p.b h.first.some) in
       let ne : least p.a ≢ least p.b = λ e. h.apart (least p.a) own.0 (subst (Has p.b) (sym e) other.0) in
       omega (
         arith,
@@ -310,9 +310,6 @@ module _ (g : JoinGraph) (ok : IsGraph g) where
         own.1 (least (union p.a p.b)) (h.least (least (union p.a p.b)) f),
         ne,
       )
-    where
-      within : Within (union p.a p.b) (full g.n)
-      within r m = elim (union_cases p.a p.b r m) [ inl x ↦ h.first.within r x | inr x ↦ h.second.within r x ]
 
   sized_has : (p : Pair) (k l : ℕ) → Pairs g p → size p.a ≡ k → size p.b ≡ l → Contains (pairs_sized g k l) p × Contains (pairs_sized g l k) p
   unfolding pairs_sized

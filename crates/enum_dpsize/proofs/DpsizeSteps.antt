@@ -1,5 +1,5 @@
 -- One step of the stream by sizes.
-use Rattle.std.proofs.Common.{◌≡◌, ℕ, suc, ◌+◌, ◌-◌, ◌*◌, ◌/◌, ◌<◌, ◌≤◌, inl, inr, arith, sym, ◌∙◌, ap, subst, true, List, [], ◌∷◌, ◌++◌, length, get_or, drop, nat_eq, append_assoc}
+use Rattle.std.proofs.Common.{add-one, ◌≡◌, ℕ, suc, ◌+◌, ◌-◌, ◌*◌, ◌/◌, ◌<◌, ◌≤◌, inl, inr, arith, sym, ◌∙◌, ap, subst, true, List, [], ◌∷◌, ◌++◌, length, get_or, drop, nat_eq, append_assoc}
 use Rattle.std.specs.Prelude.{Some}
 use Rattle.std.specs.List.{flat_map, range_with_len}
 use Rattle.std.proofs.lemmas.Bool.{eqb-true}
@@ -53,13 +53,10 @@ size_first g s l =
 sizes_next : (g : JoinGraph) (s : ℕ) → s < g.n → sizes_after g s ≡ of_size g (suc s) ++ sizes_after g (suc s)
 sizes_next g s l =
     ap (λ (n : ℕ). flat_map (of_size g) (range_with_len (suc s) n)) count
-    ∙ ap (λ (n : ℕ). of_size g (suc s) ++ flat_map (of_size g) (range_with_len n (g.n - suc s))) next
+    ∙ ap (λ (n : ℕ). of_size g (suc s) ++ flat_map (of_size g) (range_with_len n (g.n - suc s))) (add-one (suc s))
   where
     count : g.n - s ≡ suc (g.n - suc s)
     count = omega arith
-
-    next : suc s + 1 ≡ suc (suc s)
-    next = omega arith
 
 sizes_none : (g : JoinGraph) (s : ℕ) → g.n ≤ s → sizes_after g s ≡ []
 sizes_none g s l = ap (λ (n : ℕ). flat_map (of_size g) (range_with_len (suc s) n)) count

@@ -1,5 +1,5 @@
 -- The probes that are left, row by row and size by size.
-use Rattle.std.proofs.Common.{◌≡◌, ℕ, suc, ◌+◌, ◌-◌, ◌*◌, ◌/◌, ◌^◌, ◌<◌, ◌≤◌, inl, inr, arith, sym, ◌∙◌, ap, subst, Bool, List, length, get_or, slice_index, nat_eq, nat_lt}
+use Rattle.std.proofs.Common.{add-one, ◌≡◌, ℕ, suc, ◌+◌, ◌-◌, ◌*◌, ◌/◌, ◌^◌, ◌<◌, ◌≤◌, inl, inr, arith, sym, ◌∙◌, ap, subst, Bool, List, length, get_or, slice_index, nat_eq, nat_lt}
 use Rattle.std.specs.Prelude.{Some}
 use Rattle.std.specs.List.{range_with_len, sum_by}
 use Rattle.std.proofs.lemmas.Bool.{cases_lt, cond-true, cond-false, lt-ltb, le-ltb}
@@ -27,13 +27,10 @@ unfolding rows_probes
 rows_next ys same xs i l =
     ap (λ (n : ℕ). sum_by (row_probes ys same xs) (range_with_len i n)) count
     ∙ sum_by-cons (row_probes ys same xs) i (range_with_len (i + 1) (length xs - suc i))
-    ∙ ap (λ (n : ℕ). row_probes ys same xs i + sum_by (row_probes ys same xs) (range_with_len n (length xs - suc i))) next
+    ∙ ap (λ (n : ℕ). row_probes ys same xs i + sum_by (row_probes ys same xs) (range_with_len n (length xs - suc i))) (add-one i)
   where
     count : length xs - i ≡ suc (length xs - suc i)
     count = omega arith
-
-    next : i + 1 ≡ suc i
-    next = omega arith
 
 rows_none : (ys : List ℕ) (same : Bool) (xs : List ℕ) (i : ℕ) → length xs ≤ i → rows_probes ys same xs i ≡ 0
 unfolding rows_probes
@@ -68,10 +65,7 @@ rows_here ys same xs i j x l e =
 pub rows_on : (ys : List ℕ) (same : Bool) (xs : List ℕ) (i j n x : ℕ) → i < length xs → x ≡ get_or xs i x → n ≡ start_at same (i + 1) → rows_probes_from ys same xs i j ≡ probes_from ys j x + rows_probes_from ys same xs (i + 1) n
 rows_on ys same xs i j n x l e s =
     rows_here ys same xs i j x l e
-    ∙ ap (λ (k : ℕ). probes_from ys j x + k) (ap (rows_probes ys same xs) next ∙ sym (ap (rows_probes_from ys same xs (i + 1)) s ∙ rows_begin ys same xs (i + 1)))
-  where
-    next : suc i ≡ i + 1
-    next = omega arith
+    ∙ ap (λ (k : ℕ). probes_from ys j x + k) (ap (rows_probes ys same xs) (sym (add-one i)) ∙ sym (ap (rows_probes_from ys same xs (i + 1)) s ∙ rows_begin ys same xs (i + 1)))
 
 -- ---- sizes
 

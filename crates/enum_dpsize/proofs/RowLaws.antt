@@ -1,5 +1,5 @@
 -- One step along a row of sets.
-use Rattle.std.proofs.Common.{◌≡◌, ◌↔◌, ℕ, ◌+◌, ◌<◌, ◌≤◌, inl, inr, arith, refl, sym, ◌∙◌, ap, Bool, true, false, ◌&&◌, not, List, [], ◌∷◌, ◌++◌, map, length, get_or, drop, suc, drop-cons}
+use Rattle.std.proofs.Common.{add-one, ◌≡◌, ◌↔◌, ℕ, ◌+◌, ◌<◌, ◌≤◌, inl, inr, arith, refl, sym, ◌∙◌, ap, Bool, true, false, ◌&&◌, not, List, [], ◌∷◌, ◌++◌, map, length, get_or, drop, suc, drop-cons}
 use Rattle.std.specs.List.{filter}
 use Rattle.std.proofs.lemmas.Bool.{cases_lt, cond-true, cond-false, and_left, not_from_true, false_from_ne_true, and_from, and_parts, not_from_false}
 use Rattle.std.specs.Cmp.{both_ways as test_same}
@@ -90,10 +90,7 @@ row_begins g xs ys same i h =
     ]
   where
     drop_cons : (xs : List ℕ) (i : ℕ) → i < length xs → drop i xs ≡ get_or xs i 0 ∷ drop (i + 1) xs
-    drop_cons xs i l = drop-cons xs i 0 l ∙ ap (λ (k : ℕ). get_or xs i 0 ∷ drop k xs) next
-      where
-        next : suc i ≡ i + 1
-        next = omega arith
+    drop_cons xs i l = drop-cons xs i 0 l ∙ ap (λ (k : ℕ). get_or xs i 0 ∷ drop k xs) (sym (add-one i))
 
 -- the row of x is over
 pub rows_next : (g : JoinGraph) (xs ys : List ℕ) (same : Bool) (i j n x : ℕ) → i < length xs → x ≡ get_or xs i x → pairs_with g (drop j ys) x ≡ [] → (same ≡ true → xs ≡ ys) → n ≡ start_at same (i + 1) → rows_from g ys same (drop i xs) j ≡ rows_from g ys same (drop (i + 1) xs) n
