@@ -19,7 +19,7 @@ pub use rel_set::RelSet;
 pub use steps::Steps;
 
 /// The most relations of a query.
-pub const N_MAX: usize = 16;
+pub const N_MAX: usize = 20;
 
 /// The most predicates of a query.
 pub const PREDS_MAX: usize = 1024;
@@ -28,22 +28,33 @@ pub const PREDS_MAX: usize = 1024;
 pub const INPUT_CAP: u64 = 1 << 40;
 
 /// The greatest cardinality: larger ones are taken to be this.
-pub const ROW_CAP: u64 = 1 << 40;
+pub const ROW_CAP: u64 = 1 << 35;
 
 /// A tree that costs this or more has no memo word.
-pub const COST_LIMIT: u64 = 1 << 46;
+pub const COST_LIMIT: u64 = 1 << 42;
 
 /// How far apart two operators are in a memo word: the left set takes the numbers below it.
-pub const SPAN: u64 = 1 << 16;
+pub const SPAN: u64 = 1 << 20;
 
 /// The memo word of no tree.
 pub const EMPTY: u64 = u64::MAX;
 
-/// The sum of the weights of all seats at a memo: one for each of 64 workers, and one that stays.
+/// The most workers that share a memo.
+pub const WORKERS_MAX: u32 = 64;
+
+/// The most pairs that a buffer holds.
+pub const BUFFER_MAX: u32 = 65_536;
+
+/// The sum of the weights of all seats at a memo: one for each worker, and one that stays.
 pub const WEIGHT: u64 = 65;
 
 /// The tickets of a memo, both those that were drawn and those that may still be drawn.
 pub const DRAWS: u64 = 1 << 62;
+
+const _: () = prove!(WEIGHT == WORKERS_MAX as u64 + 1);
+
+// A set of relations is below the step of the operator.
+const _: () = prove!(1u64 << N_MAX <= SPAN);
 
 // Every connected set has a tree with a word, and every word is below 2 ^ 64.
 const _: () = prove!((N_MAX as u64 - 1) * (4 * ROW_CAP) < COST_LIMIT);
