@@ -14,7 +14,7 @@ use Rattle.join_tree.proofs.Existence.{connected_best}
 use Rattle.pair_stream.specs.Orders.{Complete}
 use Rattle.reorder_buffer.specs.Groups.{runs, rounds}
 use Rattle.plan_report.specs.declared.entry.Stats.{Stats}
-use Rattle.plan_report.specs.Words.{HasBestWords}
+use Rattle.join_tree.specs.Words.{HasBestWords}
 use Rattle.dpe_engine.specs.Engines.{AreLeastWords, EnginePlan}
 use Rattle.dpe_words.specs.declared.choices.Settings.{Settings}
 use Rattle.dpe_top.specs.Enumerations.{pairs_of, total_probes, stats_with}

@@ -2,8 +2,10 @@
 #![tactic(auto)]
 
 pub mod laws;
+mod plan;
 #[cfg(test)]
 mod tests;
 mod tree;
 
+pub use plan::build;
 pub use tree::Tree;

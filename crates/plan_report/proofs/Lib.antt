@@ -1,6 +1,5 @@
 pub mod Heights
 pub mod Measures
 pub mod PlanForms
-pub mod Roots
 pub mod Plain
 pub mod Holdings

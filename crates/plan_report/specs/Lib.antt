@@ -4,4 +4,3 @@ pub mod Measures
 pub mod Names
 pub mod Reports
 pub mod Texts
-pub mod Words

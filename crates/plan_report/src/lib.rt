@@ -6,12 +6,11 @@ mod entry;
 mod json;
 mod names;
 mod numbers;
-mod plan;
 mod report;
 mod text;
 
 pub use entry::Stats;
-pub use plan::build;
+pub use join_tree::build;
 pub use report::{Format, Report};
 
 #[cfg(test)]

@@ -6,8 +6,8 @@ use Rattle.dpe_base.proofs.SizeLaws.{some_member}
 use Rattle.join_graph.specs.Graphs.{Connected, graph_of}
 use Rattle.join_graph.proofs.GraphLaws.{connected_single}
 use Rattle.join_tree.specs.Trees.{Best}
-use Rattle.plan_report.specs.Words.{HasBestWords}
-use Rattle.plan_report.proofs.Roots.{best_leaf}
+use Rattle.join_tree.specs.Words.{HasBestWords}
+use Rattle.join_tree.proofs.Roots.{best_leaf}
 use Rattle.plan_report.proofs.tests.the_plan_of_one_relation_is_its_scan.Goals as goal
 
 one_set : (x s : ℕ) → s ≡ single 0 → x ≢ 0 → Within x s → s ≡ x

@@ -7,8 +7,8 @@ use Rattle.dpe_base.proofs.SizeLaws.{size-single, size-empty, size_one}
 use Rattle.join_graph.specs.Graphs.{Connected, graph_of}
 use Rattle.cost_model.specs.Words.{word_op, word_left}
 use Rattle.join_tree.specs.Trees.{JoinTree, leaf, join, leaf_word, set_of, Legal, HasWord, Best, Plan}
-use Rattle.plan_report.specs.declared.plan.Root.{Root}
-use Rattle.plan_report.specs.Words.{IsRoot}
+use Rattle.join_tree.specs.declared.plan.Root.{Root}
+use Rattle.join_tree.specs.Words.{IsRoot}
 use Rattle.join_tree.proofs.TreeLaws.{join_size}
 use Rattle.join_tree.proofs.PlanLaws.{IsPlanRoot, plan_root}
 

@@ -5,11 +5,11 @@ ghost use Rattle.dpe_base.specs.Sets.{size, single};
 ghost use Rattle.join_graph.specs.Graphs.{Connected, graph_of};
 ghost use Rattle.join_tree.specs.Trees.{Plan, join};
 ghost use Rattle.join_tree.specs.TreeOf.{tree_of};
-ghost use Rattle.plan_report.specs.Words.{HasBestWords, IsRoot};
+ghost use Rattle.join_tree.specs.Words.{HasBestWords, IsRoot};
 
+use crate::tree::Tree;
 use cost_model::{CostModel, Word};
 use dpe_base::{Query, RelSet};
-use join_tree::Tree;
 use std::alloc::{AllocError, Global};
 
 // The root of a plan: its operator, and the sets of its two sides.

@@ -1,5 +1,5 @@
-use Rattle.plan_report.proofs.Roots.{plan_alone}
-use Rattle.plan_report.proofs.plan.+build.Goals as goal
+use Rattle.join_tree.proofs.Roots.{plan_alone}
+use Rattle.join_tree.proofs.plan.+build.Goals as goal
 
 pub returns-in-Some : goal.returns-in-Some
 returns-in-Some g t c =

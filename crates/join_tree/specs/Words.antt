@@ -4,7 +4,7 @@ use Rattle.dpe_base.specs.Queries.{JoinQuery}
 use Rattle.dpe_base.specs.Sets.{Within}
 use Rattle.join_graph.specs.Graphs.{Connected, graph_of}
 use Rattle.join_tree.specs.Trees.{JoinTree, join, Best, Plan}
-use Rattle.plan_report.specs.declared.plan.Root.{Root}
+use Rattle.join_tree.specs.declared.plan.Root.{Root}
 
 -- the word of each connected set within s is the best one
 abbrev pub HasBestWords : ℕ → JoinQuery → List ℕ → ℕ → Type 0

@@ -3,8 +3,8 @@ use Rattle.dpe_base.specs.Queries.{relations}
 use Rattle.dpe_base.specs.Sets.{minus}
 use Rattle.dpe_base.proofs.SizeLaws.{full_below}
 use Rattle.cost_model.specs.Words.{word_op, word_left}
-use Rattle.plan_report.proofs.Roots.{is_root}
-use Rattle.plan_report.proofs.plan.root_of.Goals as goal
+use Rattle.join_tree.proofs.Roots.{is_root}
+use Rattle.join_tree.proofs.plan.root_of.Goals as goal
 
 pub bounds-words-bits : goal.bounds-words-bits
 bounds-words-bits g c =
