@@ -1,7 +1,7 @@
 ghost use Rattle.card_scaled.specs.Cards.{IsCardTable};
 
 use crate::{CardTable, rows_once};
-use dpe_base::{Pred, Query, Rel, RelSet};
+use dpe_base::{Pred, Query, ROW_CAP, Rel, RelSet};
 use std::alloc::Global;
 use std::test::Fail;
 
@@ -46,12 +46,7 @@ fn by_both(query: &Query, table: &CardTable, bits: u32) -> Option<(u64, u64)>
 fn no_cap_inside_the_fold(rt: HostRuntime) -> Result<(), Fail> {
     let query = centre(rt.alloc())?;
     let table = CardTable::make(rt.alloc(), &query)?;
-    for (s, rows) in [
-        (1, 1048576),
-        (7, 1099511627776),
-        (8, 1073741824),
-        (15, 1073741824),
-    ] {
+    for (s, rows) in [(1, 1 << 20), (7, ROW_CAP), (8, 1 << 30), (15, 1 << 30)] {
         assert_eq!(rt; by_both(&query, &table, s), Some((rows, rows)), "at {s}");
     }
     Ok(())

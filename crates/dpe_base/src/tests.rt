@@ -1,6 +1,6 @@
 use crate::{
-    COST_LIMIT, DRAWS, EMPTY, INPUT_CAP, N_MAX, Name, PREDS_MAX, Pred, Query, QueryFault, ROW_CAP,
-    Rel, RelSet, SPAN, WEIGHT,
+    BUFFER_MAX, COST_LIMIT, DRAWS, EMPTY, INPUT_CAP, N_MAX, Name, PREDS_MAX, Pred, Query,
+    QueryFault, ROW_CAP, Rel, RelSet, SPAN, WEIGHT, WORKERS_MAX,
 };
 use std::alloc::{AllocError, Global};
 use std::cmp::Ordering;
@@ -8,13 +8,15 @@ use std::test::Fail;
 
 #[test]
 fn the_limits(rt: HostRuntime) {
-    assert_eq!(rt; N_MAX, 16);
+    assert_eq!(rt; N_MAX, 20);
     assert_eq!(rt; PREDS_MAX, 1024);
     assert_eq!(rt; INPUT_CAP, 1_099_511_627_776);
-    assert_eq!(rt; ROW_CAP, 1_099_511_627_776);
-    assert_eq!(rt; COST_LIMIT, 70_368_744_177_664);
-    assert_eq!(rt; SPAN, 65_536);
+    assert_eq!(rt; ROW_CAP, 34_359_738_368);
+    assert_eq!(rt; COST_LIMIT, 4_398_046_511_104);
+    assert_eq!(rt; SPAN, 1_048_576);
     assert_eq!(rt; EMPTY, 18_446_744_073_709_551_615);
+    assert_eq!(rt; WORKERS_MAX, 64);
+    assert_eq!(rt; BUFFER_MAX, 65_536);
     assert_eq!(rt; WEIGHT, 65);
     assert_eq!(rt; DRAWS, 4_611_686_018_427_387_904);
 }
@@ -86,12 +88,25 @@ fn the_first_fault_of_a_query(rt: HostRuntime) -> Result<(), Fail> {
         num: 1,
         den: 1,
     };
-    let cases: [(usize, usize, Rel, Pred, Option<QueryFault>); 10] = [
-        (2, 1024, rel, pred, None),
+    let cases: [(usize, usize, Rel, Pred, Option<QueryFault>); 11] = [
+        (2, PREDS_MAX, rel, pred, None),
         (1, 0, rel, pred, None),
-        (0, 1025, rel, pred, Some(QueryFault::NoRelations)),
-        (17, 1025, rel, pred, Some(QueryFault::TooManyRelations(17))),
-        (16, 1025, many, pred, Some(QueryFault::TooManyPreds(1025))),
+        (N_MAX, 1, rel, pred, None),
+        (0, PREDS_MAX + 1, rel, pred, Some(QueryFault::NoRelations)),
+        (
+            N_MAX + 1,
+            PREDS_MAX + 1,
+            rel,
+            pred,
+            Some(QueryFault::TooManyRelations(N_MAX + 1)),
+        ),
+        (
+            N_MAX,
+            PREDS_MAX + 1,
+            many,
+            pred,
+            Some(QueryFault::TooManyPreds(PREDS_MAX + 1)),
+        ),
         (
             2,
             1,

@@ -29,7 +29,7 @@ legal_cost kind q (join op left right) l =
       join_cost_below kind op (rows q (set_of left)) (rows q (set_of right)) (rows q (union (set_of left) (set_of right))) (rows_bounds q (set_of left)).1 (rows_bounds q (set_of right)).1 (rows_bounds q (union (set_of left) (set_of right))).1,
     )
 
--- so its cost is below 2 ^ 94
+-- so its cost is below N_MAX * 2 ^ 90
 pub legal_cost_small : (kind : ℕ) (q : JoinQuery) (t : JoinTree) → IsQuery q → Legal kind (graph_of q) t → cost kind q t < N_MAX * 2 ^ 90
 legal_cost_small kind q t ok l =
     omega (arith, legal_cost kind q t l, size_full (set_of t) (relations q) (legal_connected kind (graph_of q) t l).within, ok.few)

@@ -1,11 +1,11 @@
 use crate::Tree;
 use cost_model::{CostModel, Ops, Word};
-use dpe_base::{Pred, Query, Rel};
+use dpe_base::{INPUT_CAP, Pred, Query, ROW_CAP, Rel, SPAN};
 use join_graph::Graph;
 use std::alloc::{AllocError, Global};
 use std::test::Fail;
 
-const MERGE: u8 = 1;
+const LOOP: u8 = 2;
 
 // A relation of so many rows that no filter narrows.
 fn rel(rows: u64) -> Rel {
@@ -48,28 +48,29 @@ fn words_of_two_relations(rt: HostRuntime) -> Result<(), Fail> {
     let alloc = rt.alloc();
     let rels = vec![in alloc; rel(100), rel(1000)]?;
     let query = Query::new(rels, vec![in alloc; pred(0, 1, 1000)]?)?;
-    assert_eq!(rt; word(&query, &Tree::Leaf(0)), Some(196_609));
+    assert_eq!(rt; word(&query, &Tree::Leaf(0)), Some(3 * SPAN + 1));
     assert_eq!(rt;
         word(&query, &join(alloc, 0, Tree::Leaf(0), Tree::Leaf(1))?),
-        Some(340_787_201)
+        Some(1300 * (4 * SPAN) + 1)
     );
     assert_eq!(rt;
         word(&query, &join(alloc, 0, Tree::Leaf(1), Tree::Leaf(0))?),
-        Some(576_716_802)
+        Some(2200 * (4 * SPAN) + 2)
     );
     let rels = vec![in alloc; rel(4), rel(2)]?;
     let tie = Query::new(rels, vec![in alloc; pred(0, 1, 1)]?)?;
     assert_eq!(rt;
         word(&tie, &join(alloc, 0, Tree::Leaf(1), Tree::Leaf(0))?),
-        Some(4_194_306)
+        Some(16 * (4 * SPAN) + 2)
     );
-    // a merge of the most rows costs 83 times as many, which has no word
-    let rels = vec![in alloc; rel(1 << 40), rel(1 << 40)]?;
+    // a loop over the most rows has no word
+    let rels = vec![in alloc; rel(INPUT_CAP), rel(INPUT_CAP)]?;
     let large = Query::new(rels, vec![in alloc; pred(0, 1, 1)]?)?;
-    let merge = join(alloc, MERGE, Tree::Leaf(0), Tree::Leaf(1))?;
-    assert!(rt; merge.legal(&Ops, &Graph::of(&large)));
-    assert_eq!(rt; merge.cost(&Ops, &large), 91_259_465_105_408);
-    assert_eq!(rt; word(&large, &merge), None);
+    let nested = join(alloc, LOOP, Tree::Leaf(0), Tree::Leaf(1))?;
+    assert!(rt; nested.legal(&Ops, &Graph::of(&large)));
+    let most = ROW_CAP as u128;
+    assert_eq!(rt; nested.cost(&Ops, &large), most * most + most);
+    assert_eq!(rt; word(&large, &nested), None);
     Ok(())
 }
 
@@ -80,18 +81,18 @@ fn legal_trees_of_a_chain(rt: HostRuntime) -> Result<(), Fail> {
     let preds = vec![in alloc; pred(0, 1, 10), pred(1, 2, 10), pred(2, 3, 10)]?;
     let query = Query::new(rels, preds)?;
     let leaf = |r: u8| Tree::Leaf(r);
-    assert_eq!(rt; word(&query, &leaf(3)), Some(196_616));
+    assert_eq!(rt; word(&query, &leaf(3)), Some(3 * SPAN + 8));
     assert_eq!(rt; word(&query, &leaf(4)), None);
     // the same cost in both shapes, and the lesser left set
     let last = join(alloc, 0, leaf(1), leaf(2))?;
     assert_eq!(rt;
         word(&query, &join(alloc, 0, leaf(0), last)?),
-        Some(20_971_521)
+        Some(80 * (4 * SPAN) + 1)
     );
     let first = join(alloc, 0, leaf(0), leaf(1))?;
     assert_eq!(rt;
         word(&query, &join(alloc, 0, first, leaf(2))?),
-        Some(20_971_523)
+        Some(80 * (4 * SPAN) + 3)
     );
     // no operator, no predicate between the sides, and a relation in both
     assert_eq!(rt; word(&query, &join(alloc, 3, leaf(0), leaf(1))?), None);

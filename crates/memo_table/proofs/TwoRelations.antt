@@ -1,8 +1,9 @@
 -- A query of two joined relations, and the words of its two hash joins.
-use Rattle.std.proofs.Common.{◌≡◌, ℕ, List, [], ◌∷◌, slice_index, Contains, refl, sym, subst, arith, inl, inr}
+use Rattle.std.proofs.Common.{◌≡◌, ℕ, List, [], ◌∷◌, ◌+◌, ◌*◌, slice_index, Contains, refl, sym, subst, arith, inl, inr}
 use Rattle.std.specs.Int.Count.{count_leading_zeros}
 use Rattle.dpe_base.specs.declared.pair.Pair.{Pair}
 use Rattle.dpe_base.specs.Digits.{digits}
+use Rattle.dpe_base.specs.declared.TheConstants.{SPAN}
 use Rattle.dpe_base.specs.Queries.{JoinQuery, relations}
 use Rattle.dpe_base.specs.Sets.{Has, IsLeast, Disjoint, Within, member, members_below, alone, single, union, full}
 use Rattle.dpe_base.proofs.SetLaws.{sets}
@@ -65,11 +66,11 @@ one_pair = record {
 
 -- the hash joins with either relation on the left
 module _ (pairs : List Pair) (listed : Contains pairs (pair_of 1 2)) where
-  pub first_left : Made 0 two_relations pairs 3 340787201
+  pub first_left : Made 0 two_relations pairs 3 (1300 * (4 * SPAN) + 1)
   unfolding single union rows card with_relation times_pred base_of rounded least_above mul frac one norm digits count_leading_zeros members_below alone member join_cost word
   first_left = record { tree = join 0 (leaf 0) (leaf 1); made = (omega arith, omega arith, omega arith, inl listed); over = refl; word = record { below = omega arith; is = refl } }
 
-  pub second_left : Made 0 two_relations pairs 3 576716802
+  pub second_left : Made 0 two_relations pairs 3 (2200 * (4 * SPAN) + 2)
   unfolding single union rows card with_relation times_pred base_of rounded least_above mul frac one norm digits count_leading_zeros members_below alone member join_cost word
   second_left = record { tree = join 0 (leaf 1) (leaf 0); made = (omega arith, omega arith, omega arith, inr listed); over = refl; word = record { below = omega arith; is = refl } }
 

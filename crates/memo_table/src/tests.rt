@@ -3,12 +3,17 @@ ghost use Rattle.memo_table.specs.Seats.{IsSeatOf};
 
 use crate::{Memo, MemoSeat};
 use cost_model::Ops;
-use dpe_base::{Pred, Query, Rel, RelSet};
+use dpe_base::{EMPTY, Pred, Query, Rel, RelSet, SPAN};
 use join_graph::Graph;
 use pair_stream::DpSub;
 use std::alloc::Global;
 use std::test::Fail;
 use std::thread::join;
+
+// The words of the two hash joins, of which the first costs 1,300 and the second 2,200.
+const FIRST_LEFT: u64 = 1300 * (4 * SPAN) + 1;
+
+const SECOND_LEFT: u64 = 2200 * (4 * SPAN) + 2;
 
 // Relations of 100 and 1,000 rows, joined with the fraction 1/1000.
 fn two_relations(alloc: Global) -> Result<Query, Fail>
@@ -43,11 +48,11 @@ fn a_greater_word_lowers_nothing(rt: HostRuntime) -> Result<(), Fail> {
     let stream = DpSub::over(&graph);
     let (memo, mut seat) = Memo::<Ops>::make(rt.alloc(), &query, &stream)?;
     let both = RelSet::of_bits(3);
-    memo.offer(&mut seat, both, 340787201);
+    memo.offer(&mut seat, both, FIRST_LEFT);
     let first = memo.load(&mut seat, both);
-    memo.offer(&mut seat, both, 576716802);
+    memo.offer(&mut seat, both, SECOND_LEFT);
     let second = memo.load(&mut seat, both);
-    assert_eq!(rt; (first, second), (340787201, 340787201));
+    assert_eq!(rt; (first, second), (FIRST_LEFT, FIRST_LEFT));
     let tickets = (memo.draw(&mut seat), memo.draw(&mut seat));
     assert_eq!(rt; tickets, (0, 1));
     let drawn = memo.drawn(&mut seat);
@@ -56,7 +61,7 @@ fn a_greater_word_lowers_nothing(rt: HostRuntime) -> Result<(), Fail> {
     let words = memo.finish(seat);
     assert_eq!(rt;
         words.row(),
-        [u64::MAX, 196609, 196610, 340787201].as_slice()
+        [EMPTY, 3 * SPAN + 1, 3 * SPAN + 2, FIRST_LEFT].as_slice()
     );
     assert_eq!(rt; words.drawn(), 2);
     Ok(())

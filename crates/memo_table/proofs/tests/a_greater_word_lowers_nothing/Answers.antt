@@ -1,4 +1,5 @@
-use Rattle.std.proofs.Common.{◌≡◌, Contains, inr, sym, subst, ap, ◌∙◌}
+use Rattle.std.proofs.Common.{◌≡◌, ◌+◌, ◌*◌, Contains, inr, sym, subst, ap, ◌∙◌}
+use Rattle.dpe_base.specs.declared.TheConstants.{SPAN}
 use Rattle.join_graph.specs.Graphs.{JoinGraph, Pairs, graph_of}
 use Rattle.memo_table.specs.declared.view.View.{View}
 use Rattle.dpe_base.proofs.Members.{contains_head}
@@ -22,8 +23,8 @@ offer-requires-clause-word g c κs =
 
 pub load-first-requires-clause-held : goal.load-first-requires-clause-held
 load-first-requires-clause-held g c κs =
-    let F : View → Type 0 = λ v. Contains v.bounds (c.of_bits-both.result, 340787201) in
-    (340787201, subst F (sym c.offer.ensures.view) (contains_head (c.of_bits-both.result, 340787201) c.in_ok-memo.seat.view.bounds))
+    let F : View → Type 0 = λ v. Contains v.bounds (c.of_bits-both.result, 1300 * (4 * SPAN) + 1) in
+    (1300 * (4 * SPAN) + 1, subst F (sym c.offer.ensures.view) (contains_head (c.of_bits-both.result, 1300 * (4 * SPAN) + 1) c.in_ok-memo.seat.view.bounds))
 
 pub offer-requires-2-clause-within : goal.offer-requires-2-clause-within
 offer-requires-2-clause-within g c κs =
