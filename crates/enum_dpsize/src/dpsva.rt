@@ -63,6 +63,7 @@ fn next_in_row<L: Ledger>(
     ensures probes { probes.new + probes_from ys.now next.new x ≡ probes.old + probes_from ys.now next.old x }
     ensures end { IsNone result → length ys.now ≤ next.new }
     ensures steps { steps.new + probes.old ≡ steps.old + probes.new }
+    ensures forward { steps.old ≤ steps.new }
 {
     let _n = graph.n();
     let around = graph.neighbours(x);
@@ -105,6 +106,7 @@ fn next_in_rows<L: Ledger>(
     ensures probes { probes.new + rows_probes_from ys.now same xs.now row.new next.new ≡ probes.old + rows_probes_from ys.now same xs.now row.old next.old }
     ensures end { IsNone result → length xs.now ≤ row.new }
     ensures steps { steps.new + probes.old ≡ steps.old + probes.new }
+    ensures forward { steps.old ≤ steps.new }
 {
     'rows: while *row < xs.len() {
         if let Some(p) = next_in_row(graph, xs[*row], ys, next, probes, steps) {

@@ -1,4 +1,4 @@
-ghost use Rattle.std.specs.Prelude.{◌≡◌, ℕ, ◌+◌, Bool, IsTrue, IsNone, List, []};
+ghost use Rattle.std.specs.Prelude.{◌≡◌, ◌≤◌, ℕ, ◌+◌, Bool, IsTrue, IsNone, List, []};
 ghost use Rattle.dpe_base.specs.declared.pair.Pair.{Pair};
 ghost use Rattle.pair_stream.specs.Streams.{Takes};
 
@@ -23,11 +23,12 @@ pub trait PairStream: Drop + Send {
     ghost total: { Self → ℕ };
 
     /// Takes the first of the pairs left. Where none is left the stream has ended.
-    /// Each probe is a step.
+    /// Each probe is a step, and no step is taken back.
     fn next<L: Ledger>(&mut self, steps: &mut Steps<L>) -> Option<Pair>
         ensures pair { Takes (left self.old) (left self.new) result }
         ensures end { IsNone result → IsTrue (ended self.new) }
         ensures whole { total self.new ≡ total self.old }
+        ensures forward { steps.old ≤ steps.new }
         ensures counted { steps.new + probed self.old ≡ steps.old + probed self.new };
 
     /// The probes so far. Where the stream has ended they are all.

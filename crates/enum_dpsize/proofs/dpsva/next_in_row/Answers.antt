@@ -48,6 +48,7 @@ row-preserved g c =
       pairs = c.row.invariant.pairs ∙ found_passed c.args.graph.now c.args.ys.now c.args.x c.row.next c.in-Some.place c.in-Some.y f (sym c.if-is_joinable.false ∙ c.is_joinable.ensures);
       probes = omega (arith, c.row.invariant.probes, found_counted c.args.ys.now c.args.x c.row.next c.in-Some.place c.in-Some.y c.next_free-free.result.probes c.len.ensures.part (entries_small c.args.graph.now c.args.ys.now c.n-n.ensures.valid c.requires.ys) f n);
       steps = omega (arith, c.next_free-free.ensures.steps, c.row.invariant.steps);
+      forward = omega (arith, c.next_free-free.ensures.steps, c.row.invariant.forward);
     }
 
 pub returns-clause-pair : goal.returns-clause-pair

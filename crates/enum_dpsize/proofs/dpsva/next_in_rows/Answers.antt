@@ -33,4 +33,5 @@ rows-preserved g c =
             rows_on c.args.ys.now c.args.same c.args.xs.now c.rows.row c.rows.next c.start_at.result c.index-xs-row.result c.rows-test.true c.index-xs-row.is c.start_at.ensures,
           );
       steps = omega (arith, c.in_default.ensures.steps, c.rows.invariant.steps);
+      forward = omega (arith, c.in_default.ensures.forward, c.rows.invariant.forward);
     }

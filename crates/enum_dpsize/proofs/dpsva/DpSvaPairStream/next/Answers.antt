@@ -139,4 +139,5 @@ sizes-preserved g c =
       left = c.sizes.invariant.left ∙ both.1;
       total = omega (arith, c.sizes.invariant.total, counted, next);
       steps = omega (arith, c.sizes.invariant.steps, c.in_default.ensures.steps);
+      forward = omega (arith, c.sizes.invariant.forward, c.in_default.ensures.forward);
     }

@@ -1,4 +1,4 @@
-use Rattle.std.proofs.Common.{◌≡◌, ◌+◌, ◌-◌, ◌*◌}
+use Rattle.std.proofs.Common.{◌≡◌, ◌≤◌, ◌+◌, ◌-◌, ◌*◌}
 use Rattle.enum_dpsize.specs.DpsizeLeft.{dpsize_left}
 use Rattle.enum_dpsize.specs.DpsvaLeft.{IsDpsvaState, probes_left}
 use Rattle.enum_dpsize.proofs.dpsva.DpSvaPairStream.next.Given as goal
@@ -11,6 +11,7 @@ invariant-sizes g l =
       left : l.fn.self.pairs ≡ dpsize_left s.graph s.size s.small s.row s.next;
       total : l.fn.self.total ≡ s.probes + probes_left s.graph s.size s.small s.row s.next;
       steps : l.steps + l.fn.self.probed ≡ l.initial.steps + s.probes;
+      forward : l.initial.steps ≤ l.steps;
     }
 
 abbrev pub decreases-sizes : goal.decreases-sizes
