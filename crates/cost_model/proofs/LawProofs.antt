@@ -9,7 +9,7 @@ use Rattle.cost_model.proofs.CostLaws.{operators_few, join_cost_below, first_cos
 use Rattle.cost_model.proofs.WordLaws.{word-below, word-above, word_at_empty, least_split_below_le, least_split_below_is}
 
 pub costs_are_bounded : CostsAreBounded
-costs_are_bounded kind op l r o a b c = (join_cost_below kind op l r o a b c, first_cost_capped kind l r o a b c)
+costs_are_bounded model op l r o a b c = (join_cost_below model op l r o a b c, first_cost_capped model l r o a b c)
 
 pub words_hold_their_parts : WordsHoldTheirParts
 words_hold_their_parts cost op left c p l =
@@ -39,30 +39,30 @@ empty_is_no_word = (
 )
 
 pub split_words_are_least : SplitWordsAreLeast
-split_words_are_least kind a b wa wb la lb o ia ib =
+split_words_are_least model a b wa wb la lb o ia ib =
     record {
-      one = least_split_below_is (operators kind) kind a b wa wb la lb o;
+      one = least_split_below_is (operators model) model a b wa wb la lb o;
       least = least;
       none = (λ e op l. above op l (omega (arith, e)), below);
     }
   where
-    least : (v : ℕ) → IsSplitWord kind a b wa wb la lb o v → least_split_word kind a b wa wb la lb o ≤ v
+    least : (v : ℕ) → IsSplitWord model a b wa wb la lb o v → least_split_word model a b wa wb la lb o ≤ v
     least v is = elim is.2 [
-      | inl e ↦ omega (arith, e, (least_split_below_le (operators kind) kind is.0 a b wa wb la lb o is.1).0)
-      | inr e ↦ omega (arith, e, (least_split_below_le (operators kind) kind is.0 a b wa wb la lb o is.1).1)
+      | inl e ↦ omega (arith, e, (least_split_below_le (operators model) model is.0 a b wa wb la lb o is.1).0)
+      | inr e ↦ omega (arith, e, (least_split_below_le (operators model) model is.0 a b wa wb la lb o is.1).1)
     ]
 
-    above : (op : ℕ) → op < operators kind → EMPTY ≤ least_split_word kind a b wa wb la lb o → (COST_LIMIT ≤ split_cost kind op wa wb la lb o) × (COST_LIMIT ≤ split_cost kind op wb wa lb la o)
+    above : (op : ℕ) → op < operators model → EMPTY ≤ least_split_word model a b wa wb la lb o → (COST_LIMIT ≤ split_cost model op wa wb la lb o) × (COST_LIMIT ≤ split_cost model op wb wa lb la o)
     above op l e = (
-      word_at_empty (split_cost kind op wa wb la lb o) op a (operators_few kind op l) ia (omega (arith, e, (least_split_below_le (operators kind) kind op a b wa wb la lb o l).0)),
-      word_at_empty (split_cost kind op wb wa lb la o) op b (operators_few kind op l) ib (omega (arith, e, (least_split_below_le (operators kind) kind op a b wa wb la lb o l).1)),
+      word_at_empty (split_cost model op wa wb la lb o) op a (operators_few model op l) ia (omega (arith, e, (least_split_below_le (operators model) model op a b wa wb la lb o l).0)),
+      word_at_empty (split_cost model op wb wa lb la o) op b (operators_few model op l) ib (omega (arith, e, (least_split_below_le (operators model) model op a b wa wb la lb o l).1)),
     )
 
-    below : ((op : ℕ) → op < operators kind → (COST_LIMIT ≤ split_cost kind op wa wb la lb o) × (COST_LIMIT ≤ split_cost kind op wb wa lb la o)) → least_split_word kind a b wa wb la lb o ≡ EMPTY
-    below h = elim (least_split_below_is (operators kind) kind a b wa wb la lb o) [
+    below : ((op : ℕ) → op < operators model → (COST_LIMIT ≤ split_cost model op wa wb la lb o) × (COST_LIMIT ≤ split_cost model op wb wa lb la o)) → least_split_word model a b wa wb la lb o ≡ EMPTY
+    below h = elim (least_split_below_is (operators model) model a b wa wb la lb o) [
       | inl e ↦ e
       | inr one ↦ elim one.2 [
-        | inl e ↦ e ∙ word-above (split_cost kind one.0 wa wb la lb o) one.0 a (h one.0 one.1).0
-        | inr e ↦ e ∙ word-above (split_cost kind one.0 wb wa lb la o) one.0 b (h one.0 one.1).1
+        | inl e ↦ e ∙ word-above (split_cost model one.0 wa wb la lb o) one.0 a (h one.0 one.1).0
+        | inr e ↦ e ∙ word-above (split_cost model one.0 wb wa lb la o) one.0 b (h one.0 one.1).1
       ]
     ]

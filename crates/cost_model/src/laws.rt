@@ -2,12 +2,12 @@
 ghost use Rattle.std.specs.Prelude.{◌≡◌};
 ghost use Rattle.cost_model.specs.Laws.{CostsAreBounded, WordsHoldTheirParts, WordsAreOrdered, EmptyIsNoWord, SplitWordsAreLeast};
 
-use crate::model::{CostModel, Cout, Ops};
+use crate::model::{COUT, CostModel, Cout, OPS, Ops};
 
-/// The models' numbers: the costs of `Ops` stand under 0 and those of `Cout` under 1.
+/// The models' numbers: the costs of `Ops` stand under [`OPS`] and those of `Cout` under [`COUT`].
 pub fn models_have_their_numbers()
-    ensures ops { ⟦<Ops as CostModel>⟧.KIND ≡ 0 }
-    ensures cout { ⟦<Cout as CostModel>⟧.KIND ≡ 1 }
+    ensures ops { ⟦<Ops as CostModel>⟧.KIND ≡ OPS }
+    ensures cout { ⟦<Cout as CostModel>⟧.KIND ≡ COUT }
 {}
 
 /// Every operator costs less than 2^90, and the first one at most four times the greatest number of rows.

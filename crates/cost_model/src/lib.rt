@@ -8,6 +8,6 @@ mod split;
 mod tests;
 mod word;
 
-pub use model::{CostModel, Cout, ModelKind, Ops};
+pub use model::{COUT, CostModel, Cout, HASH, JOIN, LEAF, LOOP, MERGE, ModelKind, OPS, Ops};
 pub use split::best_split;
 pub use word::Word;

@@ -1,7 +1,7 @@
 ghost use Rattle.std.specs.Prelude.{◌≡◌, ◌≢◌, ◌≤◌, ◌<◌, ℕ, IsTrue, ◌↔◌, min, ◌+◌, ◌*◌};
 ghost use Rattle.cost_model.specs.Words.{word_cost, LoopWins, least_split_word};
 
-use crate::model::CostModel;
+use crate::model::{CostModel, HASH, JOIN, LOOP, OPS};
 use crate::word::word_of;
 use dpe_base::{COST_LIMIT, EMPTY, Pair, ROW_CAP, SPAN};
 
@@ -31,13 +31,13 @@ fn ops_split(a: u32, b: u32, sides: u64, la: u64, lb: u64, o: u64) -> u64
     requires left { (1 ≤ la) × (la ≤ ROW_CAP) }
     requires right { (1 ≤ lb) × (lb ≤ ROW_CAP) }
     requires out { (1 ≤ o) × (o ≤ ROW_CAP) }
-    ensures { (wa wb : ℕ) → word_cost wa + word_cost wb ≡ sides → result ≡ least_split_word 0 a b wa wb la lb o }
+    ensures { (wa wb : ℕ) → word_cost wa + word_cost wb ≡ sides → result ≡ least_split_word OPS a b wa wb la lb o }
 {
     let (low, high) = (la.min(lb), la.max(lb));
     if loop_wins(low, high) {
-        return word_of(sides + low * high + o, 2, a.min(b));
+        return word_of(sides + low * high + o, LOOP, a.min(b));
     }
-    word_of(sides + 2 * low + high + o, 0, smaller_side(a, b, la, lb))
+    word_of(sides + 2 * low + high + o, HASH, smaller_side(a, b, la, lb))
 }
 
 /// The least word over both orders of the sides and all operators, or `EMPTY` where none has a word.
@@ -60,9 +60,9 @@ pub fn best_split<M: CostModel>(
 {
     let sides = wa / (4 * SPAN) + wb / (4 * SPAN);
     let (a, b) = (pair.a.bits(), pair.b.bits());
-    if M::KIND == 0 {
+    if M::KIND == OPS {
         ops_split(a, b, sides, la, lb, o)
     } else {
-        word_of(sides + o, 0, a.min(b))
+        word_of(sides + o, JOIN, a.min(b))
     }
 }

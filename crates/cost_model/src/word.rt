@@ -1,11 +1,12 @@
 ghost use Rattle.std.specs.Prelude.{◌≡◌, ◌≤◌, ◌<◌, MatchOption};
 ghost use Rattle.cost_model.specs.Words.{word, word_cost, word_op, word_left};
 
+use crate::model::LEAF;
 use dpe_base::{COST_LIMIT, EMPTY, RelSet, SPAN};
 use std::marker::Model;
 
 /// The memo word of a tree: its cost, the operator of its root and the set of its left side in one number,
-/// which contracts see as that number. A leaf costs nothing, has the operator 3 and its own set.
+/// which contracts see as that number. A leaf costs nothing, has [`LEAF`] for its operator and its own set.
 /// Words over one set are ordered by cost, then by operator, then by left set.
 #[derive(Clone, Copy, PartialEq, Eq, Debug)]
 pub struct Word {
@@ -27,7 +28,7 @@ impl Model for Word {
 // The word of these three, or `EMPTY`.
 #[tactic(auto, unfolding(crate::specs::Words::word))]
 pub(crate) fn word_of(cost: u64, op: u8, left: u32) -> u64
-    requires op { op ≤ 3 }
+    requires op { op ≤ LEAF }
     requires left { left < SPAN }
     ensures { result ≡ word cost op left }
 {
@@ -41,7 +42,7 @@ pub(crate) fn word_of(cost: u64, op: u8, left: u32) -> u64
 impl Word {
     /// The word of a tree that costs this much. `None` exactly where the cost has no word.
     pub fn of(cost: u128, op: u8, left: RelSet) -> Option<Word>
-        requires op { op ≤ 3 }
+        requires op { op ≤ LEAF }
         requires left { left < SPAN }
         ensures { MatchOption result (COST_LIMIT ≤ cost) (λ w. (cost < COST_LIMIT) × (w ≡ word cost op left)) }
     {
@@ -75,7 +76,7 @@ impl Word {
         self.bits / (4 * SPAN)
     }
 
-    /// The operator of the tree's root, and 3 for a leaf.
+    /// The operator of the tree's root, and [`LEAF`] for a leaf.
     pub fn op(self) -> u8
         ensures { result ≡ word_op self }
     {

@@ -49,7 +49,7 @@ impl DpCcp {
         ensures probes { (s : List Pair) → ⟦<DpCcp as PairStream>⟧.probed s ≡ 0 }
         ensures total { ⟦<DpCcp as PairStream>⟧.total result ≡ 0 }
     {
-        let _n = graph.n();
+        graph.recall();
         DpCcp {
             graph: *graph,
             firsts: FirstSides::over(graph),

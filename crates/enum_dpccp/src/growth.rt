@@ -45,7 +45,7 @@ impl Call {
     fn spent(graph: &Graph) -> Call
         ensures { result ≡ spent_call graph.now }
     {
-        let _n = graph.n();
+        graph.recall();
         Call {
             base: RelSet::empty(),
             neighbours: RelSet::empty(),
@@ -60,7 +60,7 @@ pub fn neighbours_outside(graph: &Graph, s: RelSet, x: RelSet) -> RelSet
     requires { Within s (full graph.now.n) }
     ensures { result ≡ neighbours_outside graph.now s x }
 {
-    let _n = graph.n();
+    graph.recall();
     graph.neighbours(s).minus(x)
 }
 
@@ -70,7 +70,7 @@ fn next_child(graph: &Graph, call: &Call) -> Option<Child>
     ensures some { IfSome result (λ child. IsChild graph.now call.now child) }
     ensures none { IfNone result (NoChild graph.now call.now) }
 {
-    let _n = graph.n();
+    graph.recall();
     // What no call for all neighbours reaches, no call for some of them does.
     if call.last.bits() == 0
         && neighbours_outside(graph, call.neighbours, call.excluded).bits() == 0
@@ -96,7 +96,7 @@ impl Growth {
         ensures fits { GrowthFits graph.now result }
         ensures empty { result.calling.items ≡ [] }
     {
-        let _n = graph.n();
+        graph.recall();
         Growth {
             giving: Call::spent(graph),
             calling: ArrayVec::new(),
@@ -112,7 +112,7 @@ impl Growth {
         ensures left { growth_left graph.now self.new ≡ all_extensions graph.now s x }
         ensures fits { GrowthFits graph.now self.new }
     {
-        let _n = graph.n();
+        graph.recall();
         let neighbours = neighbours_outside(graph, s, x);
         self.giving = Call {
             base: s,
@@ -131,7 +131,7 @@ impl Growth {
         ensures spent { self.new.giving.last ≡ self.new.giving.neighbours → self.new.calling.items ≡ [] }
         ensures none { self.new.giving.last ≡ self.new.giving.neighbours → growth_left graph.now self.new ≡ [] }
     {
-        let _n = graph.n();
+        graph.recall();
         if self.giving.neighbours.bits() == 0 && self.calling.is_empty() {
             return;
         }
@@ -163,7 +163,7 @@ impl Growth {
         ensures fits { GrowthFits graph.now self.new }
         ensures some { self.new.giving.last ≢ self.new.giving.neighbours }
     {
-        let _n = graph.n();
+        graph.recall();
         if child.last.bits() != call.neighbours.bits() {
             let outer = Call {
                 last: child.last,

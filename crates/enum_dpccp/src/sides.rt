@@ -46,7 +46,7 @@ fn excluded(graph: &Graph, a: RelSet) -> RelSet
     requires { Connected graph.now a }
     ensures { result ≡ excluded a }
 {
-    let _n = graph.n();
+    graph.recall();
     match a.least() {
         None => a,
         Some(r) => RelSet::full(r + 1).union(a),
@@ -72,7 +72,7 @@ impl FirstSides {
         ensures fits { FirstFits graph.now self.new }
         ensures connected { IfSome result (λ a. Connected graph.now a) }
     {
-        let _n = graph.n();
+        graph.recall();
         if let Some(s) = self.growth.next(graph) {
             return Some(s);
         }
@@ -108,7 +108,7 @@ impl SecondSides {
         ensures left { second_left graph.now self.new ≡ second_sides graph.now a }
         ensures fits { SecondFits graph.now self.new }
     {
-        let _n = graph.n();
+        graph.recall();
         self.excluded = excluded(graph, a);
         self.starts = neighbours_outside(graph, a, self.excluded);
     }
@@ -136,7 +136,7 @@ impl SecondSides {
         ensures fits { SecondFits graph.now self.new }
         ensures spent { IfNone result (growth_left graph.now self.new.growth ≡ []) }
     {
-        let _n = graph.n();
+        graph.recall();
         let Some(i) = greatest(self.starts) else {
             return None;
         };

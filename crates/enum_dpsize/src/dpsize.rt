@@ -48,7 +48,7 @@ fn next_in_row(graph: &Graph, x: RelSet, ys: &[RelSet], next: &mut usize) -> Opt
     requires ys { All (Connected graph.now) ys.now }
     ensures { Takes (pairs_with graph.now (drop next.old ys.now) x) (pairs_with graph.now (drop next.new ys.now) x) result }
 {
-    let _n = graph.n();
+    graph.recall();
     let around = graph.neighbours(x);
     'row: while *next < ys.len() {
         let y = ys[*next];

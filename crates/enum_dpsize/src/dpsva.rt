@@ -65,7 +65,7 @@ fn next_in_row<L: Ledger>(
     ensures steps { steps.new + probes.old ≡ steps.old + probes.new }
     ensures forward { steps.old ≤ steps.new }
 {
-    let _n = graph.n();
+    graph.recall();
     let around = graph.neighbours(x);
     'row: while *next < ys.len() {
         let free = ys.next_free(*next, x, steps);

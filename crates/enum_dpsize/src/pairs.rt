@@ -11,7 +11,7 @@ pub fn is_joinable(graph: &Graph, x: RelSet, around: RelSet, y: RelSet) -> bool
     requires { IsNeighbours graph.now x around }
     ensures { result ≡ is_joinable graph.now x y }
 {
-    let _n = graph.n();
+    graph.recall();
     if x.meets(y) {
         return false;
     }
@@ -23,7 +23,7 @@ pub fn least(graph: &Graph, x: RelSet) -> u8
     requires { Connected graph.now x }
     ensures { result ≡ least x }
 {
-    let _n = graph.n();
+    graph.recall();
     match x.least() {
         None => 0,
         Some(r) => r,

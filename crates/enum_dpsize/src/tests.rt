@@ -68,7 +68,7 @@ fn by_sizes(alloc: Global, graph: &Graph) -> Result<Vec<Pair>, Fail> {
 
 // The pairs, and how many probes they took.
 fn by_skips(alloc: Global, graph: &Graph) -> Result<(Vec<Pair>, u64), Fail> {
-    let _n = graph.n();
+    graph.recall();
     let parts = Parts::make(alloc, graph)?;
     let skips = SkipParts::make(alloc, &parts)?;
     let mut stream = DpSva::over(graph, &skips);

@@ -84,6 +84,13 @@ impl Graph {
         self.n
     }
 
+    /// What every graph keeps, for a proof that needs it. It does nothing.
+    pub fn recall(&self)
+        ensures { IsGraph self.now }
+    {
+        let _ = &self.n;
+    }
+
     // The relations that are joined to one in `s`.
     fn gathered(&self, s: RelSet) -> RelSet
         requires { Within s (full self.now.n) }
@@ -112,7 +119,7 @@ impl Graph {
         requires b_in { Within b (full self.now.n) }
         ensures { IsTrue result ↔ Crossed self.now a b }
     {
-        let _n = self.n;
+        self.recall();
         self.gathered(a).meets(b)
     }
 
@@ -144,7 +151,7 @@ impl Graph {
         requires first { Has s first }
         ensures { IsGrown self.now first s result }
     {
-        let _n = self.n;
+        self.recall();
         let mut part = RelSet::single(first);
         let mut more = self.frontier(part, s);
         'walk: while more.bits() != 0 {
@@ -160,7 +167,7 @@ impl Graph {
         requires { Within s (full self.now.n) }
         ensures { IsTrue result ↔ Connected self.now s }
     {
-        let _n = self.n;
+        self.recall();
         match s.least() {
             None => false,
             Some(first) => self.grown(first, s).bits() == s.bits(),

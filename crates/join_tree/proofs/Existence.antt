@@ -14,21 +14,21 @@ use Rattle.join_tree.proofs.PlanLaws.{plan_exists}
 use Rattle.join_tree.proofs.AllPairs.{all_pairs}
 
 -- a list of all pairs gives each connected set a least word, which is its best word
-pub connected_best : (kind : ℕ) (q : JoinQuery) (s : ℕ) → IsQuery q → Connected (graph_of q) s → (w : ℕ) × Best kind q s w
-connected_best kind q s ok c =
+pub connected_best : (model : ℕ) (q : JoinQuery) (s : ℕ) → IsQuery q → Connected (graph_of q) s → (w : ℕ) × Best model q s w
+connected_best model q s ok c =
     let list : (pairs : List Pair) × HasAllPairs (graph_of q) pairs = all_pairs q ok in
-    let least : (w : ℕ) × Least kind q list.0 s w =
-    least_exists kind q list.0 ok (all_pairs_build q list.0 ok list.1) (suc s) s (omega arith) (c, connected_built q list.0 ok list.1 s c) in
-    (least.0, (least_best kind q list.0 ok list.1 s least.0).0 least.1)
+    let least : (w : ℕ) × Least model q list.0 s w =
+    least_exists model q list.0 ok (all_pairs_build q list.0 ok list.1) (suc s) s (omega arith) (c, connected_built q list.0 ok list.1 s c) in
+    (least.0, (least_best model q list.0 ok list.1 s least.0).0 least.1)
 
 pub connected_sets_have_best_words : ConnectedSetsHaveBestWords
-connected_sets_have_best_words kind q s ok = ((connected_best kind q s ok, λ b. best_connected kind q s b.0 b.1), best_same kind q s)
+connected_sets_have_best_words model q s ok = ((connected_best model q s ok, λ b. best_connected model q s b.0 b.1), best_same model q s)
 
 pub connected_sets_have_one_plan : ConnectedSetsHaveOnePlan
-connected_sets_have_one_plan kind q s ok = (
+connected_sets_have_one_plan model q s ok = (
   (
-    λ c. plan_exists kind q s ok (λ x cx within. connected_best kind q x ok cx) c,
-    λ plan. subst (Connected (graph_of q)) plan.1.over (legal_connected kind (graph_of q) plan.0 plan.1.legal),
+    λ c. plan_exists model q s ok (λ x cx within. connected_best model q x ok cx) c,
+    λ plan. subst (Connected (graph_of q)) plan.1.over (legal_connected model (graph_of q) plan.0 plan.1.legal),
   ),
-  λ t u a b. plan_same kind q s t u ok a b,
+  λ t u a b. plan_same model q s t u ok a b,
 )

@@ -15,17 +15,17 @@ use Rattle.join_tree.specs.Trees.{JoinTree, leaf, join, set_of, cost, root_word,
 use Rattle.join_tree.proofs.BestLaws.{HasBest, legal_small, least_split_below}
 
 -- the word of a tree is that of its cost and its root
-root_is : (kind : ℕ) (q : JoinQuery) (t : JoinTree) → root_word kind q t ≡ word (cost kind q t) (root_operator t) (root_left t)
-root_is kind q (leaf r) = omega (arith, word-below 0 3 (single r) (omega arith))
-root_is kind q (join op l r) = refl
+root_is : (model : ℕ) (q : JoinQuery) (t : JoinTree) → root_word model q t ≡ word (cost model q t) (root_operator t) (root_left t)
+root_is model q (leaf r) = omega (arith, word-below 0 3 (single r) (omega arith))
+root_is model q (join op l r) = refl
 
-operator_few : (kind : ℕ) (g : JoinGraph) (t : JoinTree) → Legal kind g t → root_operator t ≤ 3
-operator_few kind g (leaf r) l = omega arith
-operator_few kind g (join op x y) l = omega (arith, operators_few kind op l.0)
+operator_few : (model : ℕ) (g : JoinGraph) (t : JoinTree) → Legal model g t → root_operator t ≤ 3
+operator_few model g (leaf r) l = omega arith
+operator_few model g (join op x y) l = omega (arith, operators_few model op l.0)
 
-left_small : (kind : ℕ) (q : JoinQuery) (t : JoinTree) → IsQuery q → Legal kind (graph_of q) t → root_left t < SPAN
-left_small kind q (leaf r) ok l = legal_small kind q (leaf r) ok l
-left_small kind q (join op x y) ok l = legal_small kind q x ok l.1
+left_small : (model : ℕ) (q : JoinQuery) (t : JoinTree) → IsQuery q → Legal model (graph_of q) t → root_left t < SPAN
+left_small model q (leaf r) ok l = legal_small model q (leaf r) ok l
+left_small model q (join op x y) ok l = legal_small model q x ok l.1
 
 -- of numbers of three digits
 no_worse : (c o s c' o' s' : ℕ) → c < COST_LIMIT → o ≤ 3 → s < SPAN → c' < COST_LIMIT → o' ≤ 3 → s' < SPAN → word c o s ≤ word c' o' s' → ComesBefore c o s c' o' s' ⊎ ((c ≡ c') × (o ≡ o') × (s ≡ s'))
@@ -37,26 +37,26 @@ no_worse c o s c' o' s' lc lo ls lc' lo' ls' le =
           inr (omega arith, omega arith, omega arith)
     ]
 
-best_no_worse : (kind : ℕ) (q : JoinQuery) (t u : JoinTree) → IsQuery q → Legal kind (graph_of q) t → HasBest kind q t → Legal kind (graph_of q) u → set_of u ≡ set_of t → IsNoWorse kind q t u
-best_no_worse kind q t u ok l b m e =
-    let below : cost kind q t < COST_LIMIT = least_split_below kind q t ok l b in
-    elim (cases_lt (cost kind q u) COST_LIMIT) [
+best_no_worse : (model : ℕ) (q : JoinQuery) (t u : JoinTree) → IsQuery q → Legal model (graph_of q) t → HasBest model q t → Legal model (graph_of q) u → set_of u ≡ set_of t → IsNoWorse model q t u
+best_no_worse model q t u ok l b m e =
+    let below : cost model q t < COST_LIMIT = least_split_below model q t ok l b in
+    elim (cases_lt (cost model q u) COST_LIMIT) [
       | inl c ↦
-          let le : root_word kind q t ≤ root_word kind q u = b.least u (root_word kind q u) m e (record { below = c; is = refl }) in
-          no_worse (cost kind q t) (root_operator t) (root_left t) (cost kind q u) (root_operator u) (root_left u) below
-          (operator_few kind (graph_of q) t l) (left_small kind q t ok l) c (operator_few kind (graph_of q) u m) (left_small kind q u ok m)
-          (omega (arith, le, root_is kind q t, root_is kind q u))
+          let le : root_word model q t ≤ root_word model q u = b.least u (root_word model q u) m e (record { below = c; is = refl }) in
+          no_worse (cost model q t) (root_operator t) (root_left t) (cost model q u) (root_operator u) (root_left u) below
+          (operator_few model (graph_of q) t l) (left_small model q t ok l) c (operator_few model (graph_of q) u m) (left_small model q u ok m)
+          (omega (arith, le, root_is model q t, root_is model q u))
       | inr c ↦ inl (inl (omega (arith, c, below)))
     ]
 
-each_no_worse : (kind : ℕ) (q : JoinQuery) (t : JoinTree) → IsQuery q → Legal kind (graph_of q) t → EverySubtree (HasBest kind q) t
-    → EverySubtree (λ u. (v : JoinTree) → Legal kind (graph_of q) v → set_of v ≡ set_of u → IsNoWorse kind q u v) t
-each_no_worse kind q (leaf r) ok l b = λ v m e. best_no_worse kind q (leaf r) v ok l b m e
-each_no_worse kind q (join op x y) ok l b = (
-  λ v m e. best_no_worse kind q (join op x y) v ok l b.0 m e,
-  each_no_worse kind q x ok l.1 b.1,
-  each_no_worse kind q y ok l.2 b.2,
+each_no_worse : (model : ℕ) (q : JoinQuery) (t : JoinTree) → IsQuery q → Legal model (graph_of q) t → EverySubtree (HasBest model q) t
+    → EverySubtree (λ u. (v : JoinTree) → Legal model (graph_of q) v → set_of v ≡ set_of u → IsNoWorse model q u v) t
+each_no_worse model q (leaf r) ok l b = λ v m e. best_no_worse model q (leaf r) v ok l b m e
+each_no_worse model q (join op x y) ok l b = (
+  λ v m e. best_no_worse model q (join op x y) v ok l b.0 m e,
+  each_no_worse model q x ok l.1 b.1,
+  each_no_worse model q y ok l.2 b.2,
 )
 
 pub plans_are_least : PlansAreLeast
-plans_are_least kind q s t ok p = each_no_worse kind q t ok p.legal p.best
+plans_are_least model q s t ok p = each_no_worse model q t ok p.legal p.best

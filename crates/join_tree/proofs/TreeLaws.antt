@@ -34,50 +34,50 @@ leaves_within n (join op left right) l r h = grind (arith, sets, leaves_within n
 pub leaves_small : (n : ℕ) (t : JoinTree) → n ≤ N_MAX → LeavesBelow n t → set_of t < SPAN
 leaves_small n t few l = within_span (set_of t) n (leaves_within n t l) few
 
-pub legal_leaves : (kind n : ℕ) (g : JoinGraph) (t : JoinTree) → g.n ≤ n → Legal kind g t → LeavesBelow n t
-legal_leaves kind n g (leaf r) le l = omega (arith, l)
-legal_leaves kind n g (join op left right) le l = (legal_leaves kind n g left le l.1, legal_leaves kind n g right le l.2)
+pub legal_leaves : (model n : ℕ) (g : JoinGraph) (t : JoinTree) → g.n ≤ n → Legal model g t → LeavesBelow n t
+legal_leaves model n g (leaf r) le l = omega (arith, l)
+legal_leaves model n g (join op left right) le l = (legal_leaves model n g left le l.1, legal_leaves model n g right le l.2)
 
-pub trees_leaves : (kind : ℕ) (q : JoinQuery) (pairs : List Pair) (t : JoinTree) → Trees kind q pairs t → LeavesBelow (relations q) t
-trees_leaves kind q pairs (leaf r) m = m
-trees_leaves kind q pairs (join op left right) m = (trees_leaves kind q pairs left m.1, trees_leaves kind q pairs right m.2)
+pub trees_leaves : (model : ℕ) (q : JoinQuery) (pairs : List Pair) (t : JoinTree) → Trees model q pairs t → LeavesBelow (relations q) t
+trees_leaves model q pairs (leaf r) m = m
+trees_leaves model q pairs (join op left right) m = (trees_leaves model q pairs left m.1, trees_leaves model q pairs right m.2)
 
 -- ---- the legal trees
 
 -- the leaves of a legal tree are a connected set
-pub legal_connected : (kind : ℕ) (g : JoinGraph) (t : JoinTree) → Legal kind g t → Connected g (set_of t)
-legal_connected kind g (leaf r) l = connected_single g r l
-legal_connected kind g (join op left right) l =
-    connected_union g (set_of left) (set_of right) (legal_connected kind g left l.1) (legal_connected kind g right l.2) l.4
+pub legal_connected : (model : ℕ) (g : JoinGraph) (t : JoinTree) → Legal model g t → Connected g (set_of t)
+legal_connected model g (leaf r) l = connected_single g r l
+legal_connected model g (join op left right) l =
+    connected_union g (set_of left) (set_of right) (legal_connected model g left l.1) (legal_connected model g right l.2) l.4
 
 -- a join has two relations or more
-pub join_size : (kind : ℕ) (g : JoinGraph) (op : ℕ) (l r : JoinTree) → Legal kind g (join op l r) → 2 ≤ size (union (set_of l) (set_of r))
-join_size kind g op l r m =
+pub join_size : (model : ℕ) (g : JoinGraph) (op : ℕ) (l r : JoinTree) → Legal model g (join op l r) → 2 ≤ size (union (set_of l) (set_of r))
+join_size model g op l r m =
     omega (
       arith,
       size-union (set_of l) (set_of r) m.3,
-      connected_size_some g (set_of l) (legal_connected kind g l m.1),
-      connected_size_some g (set_of r) (legal_connected kind g r m.2),
+      connected_size_some g (set_of l) (legal_connected model g l m.1),
+      connected_size_some g (set_of r) (legal_connected model g r m.2),
     )
 
-pub legal_made : (kind : ℕ) (q : JoinQuery) (pairs : List Pair) → IsQuery q → HasAllPairs (graph_of q) pairs → (t : JoinTree) → Legal kind (graph_of q) t → Trees kind q pairs t
-legal_made kind q pairs ok all (leaf r) l = l
-legal_made kind q pairs ok all (join op left right) l = (
+pub legal_made : (model : ℕ) (q : JoinQuery) (pairs : List Pair) → IsQuery q → HasAllPairs (graph_of q) pairs → (t : JoinTree) → Legal model (graph_of q) t → Trees model q pairs t
+legal_made model q pairs ok all (leaf r) l = l
+legal_made model q pairs ok all (join op left right) l = (
   l.0,
-  legal_made kind q pairs ok all left l.1,
-  legal_made kind q pairs ok all right l.2,
-  elim (pair_either (graph_of q) (set_of left) (set_of right) ok.few (legal_connected kind (graph_of q) left l.1) (legal_connected kind (graph_of q) right l.2) l.3 l.4) [
+  legal_made model q pairs ok all left l.1,
+  legal_made model q pairs ok all right l.2,
+  elim (pair_either (graph_of q) (set_of left) (set_of right) ok.few (legal_connected model (graph_of q) left l.1) (legal_connected model (graph_of q) right l.2) l.3 l.4) [
     | inl p ↦ inl ((all (pair_of (set_of left) (set_of right))).1 p)
     | inr p ↦ inr ((all (pair_of (set_of right) (set_of left))).1 p)
   ],
 )
 
-pub made_legal : (kind : ℕ) (q : JoinQuery) (pairs : List Pair) → ((p : Pair) → Contains pairs p → Pairs (graph_of q) p) → (t : JoinTree) → Trees kind q pairs t → Legal kind (graph_of q) t
-made_legal kind q pairs all (leaf r) l = l
-made_legal kind q pairs all (join op left right) l = (
+pub made_legal : (model : ℕ) (q : JoinQuery) (pairs : List Pair) → ((p : Pair) → Contains pairs p → Pairs (graph_of q) p) → (t : JoinTree) → Trees model q pairs t → Legal model (graph_of q) t
+made_legal model q pairs all (leaf r) l = l
+made_legal model q pairs all (join op left right) l = (
   l.0,
-  made_legal kind q pairs all left l.1,
-  made_legal kind q pairs all right l.2,
+  made_legal model q pairs all left l.1,
+  made_legal model q pairs all right l.2,
   elim l.3 [ inl c ↦ (all _ c).apart | inr c ↦ λ r x y. (all _ c).apart r y x ],
   elim l.3 [ inl c ↦ (all _ c).crossed | inr c ↦ crossed_back (graph_of q) (set_of right) (set_of left) (all _ c).crossed ],
 )

@@ -1,11 +1,9 @@
 use crate::Tree;
-use cost_model::{CostModel, Ops, Word};
+use cost_model::{CostModel, HASH, LEAF, LOOP, Ops, Word};
 use dpe_base::{INPUT_CAP, Pred, Query, ROW_CAP, Rel, SPAN};
 use join_graph::Graph;
 use std::alloc::{AllocError, Global};
 use std::test::Fail;
-
-const LOOP: u8 = 2;
 
 // A relation of so many rows that no filter narrows.
 fn rel(rows: u64) -> Rel {
@@ -48,19 +46,19 @@ fn words_of_two_relations(rt: HostRuntime) -> Result<(), Fail> {
     let alloc = rt.alloc();
     let rels = vec![in alloc; rel(100), rel(1000)]?;
     let query = Query::new(rels, vec![in alloc; pred(0, 1, 1000)]?)?;
-    assert_eq!(rt; word(&query, &Tree::Leaf(0)), Some(3 * SPAN + 1));
+    assert_eq!(rt; word(&query, &Tree::Leaf(0)), Some(LEAF as u64 * SPAN + 1));
     assert_eq!(rt;
-        word(&query, &join(alloc, 0, Tree::Leaf(0), Tree::Leaf(1))?),
+        word(&query, &join(alloc, HASH, Tree::Leaf(0), Tree::Leaf(1))?),
         Some(1300 * (4 * SPAN) + 1)
     );
     assert_eq!(rt;
-        word(&query, &join(alloc, 0, Tree::Leaf(1), Tree::Leaf(0))?),
+        word(&query, &join(alloc, HASH, Tree::Leaf(1), Tree::Leaf(0))?),
         Some(2200 * (4 * SPAN) + 2)
     );
     let rels = vec![in alloc; rel(4), rel(2)]?;
     let tie = Query::new(rels, vec![in alloc; pred(0, 1, 1)]?)?;
     assert_eq!(rt;
-        word(&tie, &join(alloc, 0, Tree::Leaf(1), Tree::Leaf(0))?),
+        word(&tie, &join(alloc, HASH, Tree::Leaf(1), Tree::Leaf(0))?),
         Some(16 * (4 * SPAN) + 2)
     );
     // a loop over the most rows has no word
@@ -81,23 +79,23 @@ fn legal_trees_of_a_chain(rt: HostRuntime) -> Result<(), Fail> {
     let preds = vec![in alloc; pred(0, 1, 10), pred(1, 2, 10), pred(2, 3, 10)]?;
     let query = Query::new(rels, preds)?;
     let leaf = |r: u8| Tree::Leaf(r);
-    assert_eq!(rt; word(&query, &leaf(3)), Some(3 * SPAN + 8));
+    assert_eq!(rt; word(&query, &leaf(3)), Some(LEAF as u64 * SPAN + 8));
     assert_eq!(rt; word(&query, &leaf(4)), None);
     // the same cost in both shapes, and the lesser left set
-    let last = join(alloc, 0, leaf(1), leaf(2))?;
+    let last = join(alloc, HASH, leaf(1), leaf(2))?;
     assert_eq!(rt;
-        word(&query, &join(alloc, 0, leaf(0), last)?),
+        word(&query, &join(alloc, HASH, leaf(0), last)?),
         Some(80 * (4 * SPAN) + 1)
     );
-    let first = join(alloc, 0, leaf(0), leaf(1))?;
+    let first = join(alloc, HASH, leaf(0), leaf(1))?;
     assert_eq!(rt;
-        word(&query, &join(alloc, 0, first, leaf(2))?),
+        word(&query, &join(alloc, HASH, first, leaf(2))?),
         Some(80 * (4 * SPAN) + 3)
     );
     // no operator, no predicate between the sides, and a relation in both
-    assert_eq!(rt; word(&query, &join(alloc, 3, leaf(0), leaf(1))?), None);
-    assert_eq!(rt; word(&query, &join(alloc, 0, leaf(0), leaf(2))?), None);
-    let twice = join(alloc, 0, leaf(0), leaf(1))?;
-    assert_eq!(rt; word(&query, &join(alloc, 0, twice, leaf(1))?), None);
+    assert_eq!(rt; word(&query, &join(alloc, LEAF, leaf(0), leaf(1))?), None);
+    assert_eq!(rt; word(&query, &join(alloc, HASH, leaf(0), leaf(2))?), None);
+    let twice = join(alloc, HASH, leaf(0), leaf(1))?;
+    assert_eq!(rt; word(&query, &join(alloc, HASH, twice, leaf(1))?), None);
     Ok(())
 }

@@ -7,7 +7,7 @@ ghost use Rattle.join_tree.specs.Trees.{LeavesBelow, set_of, Legal, cost, root_w
 ghost use Rattle.join_tree.specs.TreeOf.{tree_of};
 
 use card_scaled::rows_once;
-use cost_model::{CostModel, Word};
+use cost_model::{CostModel, LEAF, Word};
 use dpe_base::{COST_LIMIT, Query, RelSet};
 use join_graph::Graph;
 
@@ -83,8 +83,7 @@ impl Tree {
         requires { Legal M.KIND (graph_of query.now) (tree_of self.now) }
         ensures { result ≡ cost M.KIND query.now (tree_of self.now) }
     {
-        // its clause says what every query keeps
-        let _n = query.n();
+        query.recall();
         match self {
             Tree::Leaf(_) => 0,
             Tree::Join { op, left, right } => {
@@ -105,11 +104,10 @@ impl Tree {
             (COST_LIMIT ≤ total)
             (λ w. (total < COST_LIMIT) × (w ≡ root_word M.KIND query.now tree)) }
     {
-        // its clause says what every query keeps
-        let _n = query.n();
+        query.recall();
         let cost = self.cost(model, query);
         match self {
-            Tree::Leaf(r) => Word::of(cost, 3, RelSet::single(*r)),
+            Tree::Leaf(r) => Word::of(cost, LEAF, RelSet::single(*r)),
             Tree::Join { op, left, right: _ } => Word::of(cost, *op, left.set()),
         }
     }

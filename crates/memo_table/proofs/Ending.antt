@@ -15,19 +15,19 @@ use Rattle.memo_table.proofs.Counting.{knowing}
 use Rattle.memo_table.proofs.Holding.{live_of, others_spent}
 use Rattle.memo_table.proofs.TreeWords.{made_below}
 
-module _ (kind : ℕ) (space : TreeSpace) where
-  pub ends : (s : TableState) (id : ℕ) (v : View) → Kept kind space s → get_elem? s.views id ≡ some v → v.weight ≡ WEIGHT → (t : ℕ) → IsLeastBound v.bounds t (memo_word s.words t)
+module _ (model : ℕ) (space : TreeSpace) where
+  pub ends : (s : TableState) (id : ℕ) (v : View) → Kept model space s → get_elem? s.views id ≡ some v → v.weight ≡ WEIGHT → (t : ℕ) → IsLeastBound v.bounds t (memo_word s.words t)
   ends s id v k at all t =
       let x : ℕ = memo_word s.words t in
       let own : x ≢ EMPTY → Contains v.bounds (t, x) = λ ne. let h = k.held t ne in dite (ℕ_discrete h.seat id)
       (λ (e : h.seat ≡ id).
       let same : h.view ≡ v = some-injective h.view v (sym h.at ∙ (ap (λ (i : ℕ). get_elem? s.views i) e ∙ at)) in
       let F : View → Type 0 = λ u. Contains u.bounds (t, x) in subst F same h.bound)
-      (λ (ne' : h.seat ≢ id). let F : View → Type 0 = λ u. Contains u.bounds (t, x) in absurd (contains_none (t, x) (subst F (others_spent kind space s id v k at all h.seat h.view ne' h.at) h.bound))) in
-      let live = live_of kind space s.words v (k.views id v at) (omega arith) in
+      (λ (ne' : h.seat ≢ id). let F : View → Type 0 = λ u. Contains u.bounds (t, x) in absurd (contains_none (t, x) (subst F (others_spent model space s id v k at all h.seat h.view ne' h.at) h.bound))) in
+      let live = live_of model space s.words v (k.views id v at) (omega arith) in
       let below : (b : ℕ) → Contains v.bounds (t, b) → (x ≤ b) × (x ≢ EMPTY) = λ b has.
       let g = live.bounds (t, b) has in
-      let low : b < EMPTY = made_below kind space k.listed t b g.is.made in
+      let low : b < EMPTY = made_below model space k.listed t b g.is.made in
       let r : x ≤ b = g.reached in (r, omega arith) in record {
         none = (
           (λ e b has. (below b has).1 e),
@@ -36,8 +36,8 @@ module _ (kind : ℕ) (space : TreeSpace) where
         some = λ b has. (own (below b has).1, (below b has).0);
       }
 
-  pub ends_drawn : (s : TableState) (id : ℕ) (v : View) → Kept kind space s → get_elem? s.views id ≡ some v → v.weight ≡ WEIGHT → EachOnceBelow (counter s.words) v.tickets
-  ends_drawn s id v k at all = knowing (counter s.words) s.views id v k.counts at (others_spent kind space s id v k at all)
+  pub ends_drawn : (s : TableState) (id : ℕ) (v : View) → Kept model space s → get_elem? s.views id ≡ some v → v.weight ≡ WEIGHT → EachOnceBelow (counter s.words) v.tickets
+  ends_drawn s id v k at all = knowing (counter s.words) s.views id v k.counts at (others_spent model space s id v k at all)
 
 -- the words as they were copied
 pub copied : (ws row : List ℕ) (t : ℕ) → t < length row → get_elem? ws (t + 1) ≡ some (get_or row t 0) → memo_word ws t ≡ get_or row t 0

@@ -10,16 +10,16 @@ use Rattle.memo_table.specs.Seats.{Settled}
 use Rattle.memo_table.proofs.TreeWords.{made_below}
 
 -- the word that is loaded of a settled set is its least word
-pub loaded_least : (kind : ℕ) (v : View) (s x : ℕ) → Settled kind v s → Made kind v.query v.pairs s x → ((w : ℕ) → Contains v.bounds (s, w) → x ≤ w) → Least kind v.query v.pairs s x
-loaded_least kind v s x settled made low =
+pub loaded_least : (model : ℕ) (v : View) (s x : ℕ) → Settled model v s → Made model v.query v.pairs s x → ((w : ℕ) → Contains v.bounds (s, w) → x ≤ w) → Least model v.query v.pairs s x
+loaded_least model v s x settled made low =
     record { made = made; least = λ u m. let a = low settled.word settled.bound in let b = settled.least.least u m in omega arith }
 
 pub settled_is_final : SettledWordsAreFinal
-settled_is_final kind space t seat s v k at x = ⊎_elim
+settled_is_final model space t seat s v k at x = ⊎_elim
     (λ e. let F : View → Type 0 = λ u. Contains u.bounds (s, x.word) in absurd (contains_none (s, x.word) (subst F e x.bound)))
     (λ live.
     let g = live.bounds (s, x.word) x.bound in
-    let low : x.word < EMPTY = made_below kind space k.listed s x.word g.is.made in
+    let low : x.word < EMPTY = made_below model space k.listed s x.word g.is.made in
     let up : memo_word t.words s ≤ x.word = g.reached in
     ⊎_elim
     (λ (e : memo_word t.words s ≡ EMPTY). absurd (omega arith))

@@ -13,17 +13,17 @@ use Rattle.memo_table.specs.Views.{spent_view}
 use Rattle.memo_table.specs.Rule.{TableState, memo_word, counter, Counts, IsHeld, IsLive, AreMemoWords, Kept}
 use Rattle.memo_table.proofs.Counting.{at_inside, weight_left}
 
-module _ (kind : ℕ) (space : TreeSpace) where
+module _ (model : ℕ) (space : TreeSpace) where
   abbrev pub Fits : List ℕ → View → Type 0
-  Fits ws v = (v ≡ spent_view) ⊎ IsLive kind space ws v
+  Fits ws v = (v ≡ spent_view) ⊎ IsLive model space ws v
 
-  pub live_of : (ws : List ℕ) (v : View) → Fits ws v → 1 ≤ v.weight → IsLive kind space ws v
+  pub live_of : (ws : List ℕ) (v : View) → Fits ws v → 1 ≤ v.weight → IsLive model space ws v
   live_of ws v f heavy = ⊎_elim (λ (e : v ≡ spent_view). let w : v.weight ≡ 0 = ap (λ (u : View). u.weight) e in absurd (omega arith)) (λ l. l) f
 
   -- what a view that does not move knows stays true
   still : (ws ws' : List ℕ) (v : View) → counter ws ≤ counter ws' → ((t : ℕ) → memo_word ws' t ≤ memo_word ws t) → Fits ws v → Fits ws' v
   still ws ws' v up down f = ⊎_elim (λ e. inl e)
-      (λ (l : IsLive kind space ws v). inr record {
+      (λ (l : IsLive model space ws v). inr record {
         weight = l.weight;
         query = l.query;
         pairs = l.pairs;
@@ -33,7 +33,7 @@ module _ (kind : ℕ) (space : TreeSpace) where
       f
 
   pub each_set : (ws ws' : List ℕ) (views : List View) (id : ℕ) (w : View) → counter ws ≤ counter ws' → ((t : ℕ) → memo_word ws' t ≤ memo_word ws t)
-      → ((other : ℕ) (v : View) → get_elem? views other ≡ some v → Fits ws v) → IsLive kind space ws' w
+      → ((other : ℕ) (v : View) → get_elem? views other ≡ some v → Fits ws v) → IsLive model space ws' w
       → (other : ℕ) (v : View) → get_elem? (set views id w) other ≡ some v → Fits ws' v
   each_set ws ws' views id w up down each live other v at = ⊎_elim
       (λ (t : (other ≡ id) × (w ≡ v)). let F : View → Type 0 = Fits ws' in subst F t.1 (inr live))
@@ -50,11 +50,11 @@ module _ (kind : ℕ) (space : TreeSpace) where
       (λ (ne : h.seat ≢ id). record { seat = h.seat; view = h.view; at = set_else views id h.seat w ne ∙ h.at; bound = h.bound })
 
   -- a step on a word, by a view that only gains bounds
-  pub moved : (s : TableState) (i n id : ℕ) (v w : View) → Kept kind space s → get_elem? s.views id ≡ some v
-      → counter s.words ≤ counter (set s.words i n) → ((t : ℕ) → memo_word (set s.words i n) t ≤ memo_word s.words t) → AreMemoWords kind space (set s.words i n)
+  pub moved : (s : TableState) (i n id : ℕ) (v w : View) → Kept model space s → get_elem? s.views id ≡ some v
+      → counter s.words ≤ counter (set s.words i n) → ((t : ℕ) → memo_word (set s.words i n) t ≤ memo_word s.words t) → AreMemoWords model space (set s.words i n)
       → ((t : ℕ) → (memo_word (set s.words i n) t ≡ memo_word s.words t) ⊎ Contains w.bounds (t, memo_word (set s.words i n) t))
-      → ((b : ℕ × ℕ) → Contains v.bounds b → Contains w.bounds b) → IsLive kind space (set s.words i n) w → Counts (counter (set s.words i n)) (set s.views id w)
-      → Kept kind space record { words = set s.words i n; homes = s.homes; views = set s.views id w }
+      → ((b : ℕ × ℕ) → Contains v.bounds b → Contains w.bounds b) → IsLive model space (set s.words i n) w → Counts (counter (set s.words i n)) (set s.views id w)
+      → Kept model space record { words = set s.words i n; homes = s.homes; views = set s.views id w }
   moved s i n id v w k at up down memo cover grow live counts = record {
     listed = k.listed;
     words = memo;
@@ -69,11 +69,11 @@ module _ (kind : ℕ) (space : TreeSpace) where
   }
 
   -- the same where no word changes
-  pub turned : (s : TableState) (id : ℕ) (v w : View) → Kept kind space s → get_elem? s.views id ≡ some v → ((b : ℕ × ℕ) → Contains v.bounds b → Contains w.bounds b)
-      → IsLive kind space s.words w → Counts (counter s.words) (set s.views id w) → (i : ℕ)
-      → Kept kind space record { words = set s.words i (get_or s.words i 0); homes = s.homes; views = set s.views id w }
+  pub turned : (s : TableState) (id : ℕ) (v w : View) → Kept model space s → get_elem? s.views id ≡ some v → ((b : ℕ × ℕ) → Contains v.bounds b → Contains w.bounds b)
+      → IsLive model space s.words w → Counts (counter s.words) (set s.views id w) → (i : ℕ)
+      → Kept model space record { words = set s.words i (get_or s.words i 0); homes = s.homes; views = set s.views id w }
   turned s id v w k at grow live counts i =
-      let F : List ℕ → Type 0 = λ ws. Kept kind space record { words = ws; homes = s.homes; views = set s.views id w } in
+      let F : List ℕ → Type 0 = λ ws. Kept model space record { words = ws; homes = s.homes; views = set s.views id w } in
       subst F (sym (set-get_or s.words i 0)) record {
         listed = k.listed;
         words = k.words;
@@ -83,7 +83,7 @@ module _ (kind : ℕ) (space : TreeSpace) where
       }
 
   -- who has the whole weight finds each other view spent
-  pub others_spent : (s : TableState) (id : ℕ) (v : View) → Kept kind space s → get_elem? s.views id ≡ some v → v.weight ≡ WEIGHT → (other : ℕ) (w : View) → other ≢ id → get_elem? s.views other ≡ some w → w ≡ spent_view
+  pub others_spent : (s : TableState) (id : ℕ) (v : View) → Kept model space s → get_elem? s.views id ≡ some v → v.weight ≡ WEIGHT → (other : ℕ) (w : View) → other ≢ id → get_elem? s.views other ≡ some w → w ≡ spent_view
   others_spent s id v k at all other w ne at' = ⊎_elim (λ e. e)
-      (λ (l : IsLive kind space s.words w). let h = weight_left (counter s.words) s.views id other v w k.counts at all ne at' in let q = l.weight in absurd (omega arith))
+      (λ (l : IsLive model space s.words w). let h = weight_left (counter s.words) s.views id other v w k.counts at all ne at' in let q = l.weight in absurd (omega arith))
       (k.views other w at')

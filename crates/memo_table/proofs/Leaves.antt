@@ -28,12 +28,12 @@ unfolding single
 leaf_word_low r l = let p = pow_below r N_MAX l in omega arith
 
 -- each leaf has its word among the bounds
-pub leaves_settled : (kind : ℕ) (space : TreeSpace) (v : View) → IsTreeSpace space → v.query ≡ space.query → v.pairs ≡ space.pairs → HasLeaves (relations space.query) v
-    → (r : ℕ) → r < relations space.query → Settled kind v (single r)
-leaves_settled kind space v is query pairs has r l = record {
+pub leaves_settled : (model : ℕ) (space : TreeSpace) (v : View) → IsTreeSpace space → v.query ≡ space.query → v.pairs ≡ space.pairs → HasLeaves (relations space.query) v
+    → (r : ℕ) → r < relations space.query → Settled model v (single r)
+leaves_settled model space v is query pairs has r l = record {
   word = leaf_word r;
   bound = (has (leaf_bound r)).1 (r, l, refl);
-  least = rw (query, pairs) (leaf_least kind space is r l);
+  least = rw (query, pairs) (leaf_least model space is r l);
 }
 
 pub no_leaves : (v : View) → v.bounds ≡ [] → HasLeaves 0 v

@@ -16,33 +16,33 @@ use Rattle.dpe_base.proofs.Members.{contains_cases}
 abbrev TableSeat : Type 0
 TableSeat = Seat (Unit {0}) View
 
-module _ (kind : ℕ) where
+module _ (model : ℕ) where
   -- the seat after a step, by what the step tells
-  pub seated : (s s' : TableSeat) (w : View) → IsSeated kind s → s'.table_id ≡ s.table_id → s'.me.1 ≡ [] → s'.me.0 ≡ w → w.query ≡ s.me.0.query → 1 ≤ w.weight → BoundsAreMade kind w → IsSeated kind s'
+  pub seated : (s s' : TableSeat) (w : View) → IsSeated model s → s'.table_id ≡ s.table_id → s'.me.1 ≡ [] → s'.me.0 ≡ w → w.query ≡ s.me.0.query → 1 ≤ w.weight → BoundsAreMade model w → IsSeated model s'
   seated s s' w i table slots is query weight made =
       let same : s'.me.0.query ≡ s.me.0.query = ap (λ (v : View). v.query) is ∙ query in record {
         no_slot = slots;
         weight = let F : View → Type 0 = λ v. 1 ≤ v.weight in subst F (sym is) weight;
         width = rw (table, same) i.width;
         small = rw table i.small;
-        bounds = let F : View → Type 0 = BoundsAreMade kind in subst F (sym is) made;
+        bounds = let F : View → Type 0 = BoundsAreMade model in subst F (sym is) made;
       }
 
-  pub made_with_bound : (v : View) (t x : ℕ) → BoundsAreMade kind v → t ≢ 0 → Within t (full (relations v.query)) → Made kind v.query v.pairs t x → BoundsAreMade kind (with_bound v t x)
+  pub made_with_bound : (v : View) (t x : ℕ) → BoundsAreMade model v → t ≢ 0 → Within t (full (relations v.query)) → Made model v.query v.pairs t x → BoundsAreMade model (with_bound v t x)
   made_with_bound v t x all some within made b has = ⊎_elim
-      (λ (e : (t, x) ≡ b). let F : ℕ × ℕ → Type 0 = IsMadeBound kind v.query v.pairs in subst F e record { some = some; within = within; made = made })
+      (λ (e : (t, x) ≡ b). let F : ℕ × ℕ → Type 0 = IsMadeBound model v.query v.pairs in subst F e record { some = some; within = within; made = made })
       (λ old. all b old)
       (contains_cases (t, x) v.bounds b has)
 
-  pub made_with_offer : (v : View) (t x : ℕ) → BoundsAreMade kind v → t ≢ 0 → Within t (full (relations v.query)) → (x ≡ EMPTY) ⊎ Made kind v.query v.pairs t x → BoundsAreMade kind (with_offer v t x)
+  pub made_with_offer : (v : View) (t x : ℕ) → BoundsAreMade model v → t ≢ 0 → Within t (full (relations v.query)) → (x ≡ EMPTY) ⊎ Made model v.query v.pairs t x → BoundsAreMade model (with_offer v t x)
   made_with_offer v t x all some within word =
-      let F : Bool → Type 0 = λ b. BoundsAreMade kind (cond b v (with_bound v t x)) in
+      let F : Bool → Type 0 = λ b. BoundsAreMade model (cond b v (with_bound v t x)) in
       dite (ℕ_discrete x EMPTY)
       (λ (e : x ≡ EMPTY). subst F (sym (eq-eqb x EMPTY e)) all)
       (λ (ne : x ≢ EMPTY). subst F (sym (ne_eqb x EMPTY ne)) (made_with_bound v t x all some within (⊎_elim (λ e. absurd (ne e)) (λ m. m) word)))
 
-  pub made_joined : (v w : View) → BoundsAreMade kind v → BoundsAreMade kind w → w.query ≡ v.query → w.pairs ≡ v.pairs
-      → (b : ℕ × ℕ) → Contains (v.bounds ++ w.bounds) b → IsMadeBound kind v.query v.pairs b
+  pub made_joined : (v w : View) → BoundsAreMade model v → BoundsAreMade model w → w.query ≡ v.query → w.pairs ≡ v.pairs
+      → (b : ℕ × ℕ) → Contains (v.bounds ++ w.bounds) b → IsMadeBound model v.query v.pairs b
   made_joined v w all also query pairs b has = ⊎_elim
       (λ h. all b h)
       (λ h. rw (← query, ← pairs) (also b h))

@@ -15,39 +15,39 @@ use Rattle.dpe_base.proofs.Members.{contains_none}
 use Rattle.memo_table.proofs.Counting.{at_inside, splitting, joining}
 use Rattle.memo_table.proofs.Holding.{Fits, live_of, each_set, held_set}
 
-module _ (kind : ℕ) (space : TreeSpace) where
-  pub splits : (d id : ℕ) (v : View) → 2 ≤ v.weight → d ≤ v.allowance → Splits (Kept kind space) id v (kept_part d v) (given_part d v)
+module _ (model : ℕ) (space : TreeSpace) where
+  pub splits : (d id : ℕ) (v : View) → 2 ≤ v.weight → d ≤ v.allowance → Splits (Kept model space) id v (kept_part d v) (given_part d v)
   splits d id v heavy may s k at =
-      let live = live_of kind space s.words v (k.views id v at) (omega arith) in
+      let live = live_of model space s.words v (k.views id v at) (omega arith) in
       let w : View = kept_part d v in
       let u : View = given_part d v in
-      let wlive : IsLive kind space s.words w = record { weight = omega arith; query = live.query; pairs = live.pairs; floor = live.floor; bounds = live.bounds } in
-      let ulive : IsLive kind space s.words u = record { weight = omega arith; query = live.query; pairs = live.pairs; floor = live.floor; bounds = live.bounds } in record {
+      let wlive : IsLive model space s.words w = record { weight = omega arith; query = live.query; pairs = live.pairs; floor = live.floor; bounds = live.bounds } in
+      let ulive : IsLive model space s.words u = record { weight = omega arith; query = live.query; pairs = live.pairs; floor = live.floor; bounds = live.bounds } in record {
         listed = k.listed;
         words = k.words;
         held = λ t ne.
-            let h = held_set kind space s.views id v w (t, memo_word s.words t) at (λ h. h) (k.held t ne) in
+            let h = held_set model space s.views id v w (t, memo_word s.words t) at (λ h. h) (k.held t ne) in
             record { seat = h.seat; view = h.view; at = at_longer (set s.views id w) (u ∷ []) h.seat h.view h.at; bound = h.bound };
         counts = splitting (counter s.words) d s.views id v k.counts at heavy may;
-        views = λ other a at'. ⊎_elim (λ was. each_set kind space s.words s.words s.views id w (le_refl _) (λ t. le_refl _) k.views wlive other a was)
-            (λ (e : u ≡ a). let F : View → Type 0 = Fits kind space s.words in subst F e (inr ulive))
+        views = λ other a at'. ⊎_elim (λ was. each_set model space s.words s.words s.views id w (le_refl _) (λ t. le_refl _) k.views wlive other a was)
+            (λ (e : u ≡ a). let F : View → Type 0 = Fits model space s.words in subst F e (inr ulive))
             (at_snoc (set s.views id w) u a other at');
       }
 
   -- the bounds of a view that fits are bounds
-  bounds_of : (ws : List ℕ) (w : View) → Fits kind space ws w → (b : ℕ × ℕ) → Contains w.bounds b → IsBound kind space ws b
-  bounds_of ws w f b has = ⊎_elim (λ (e : w ≡ spent_view). let F : View → Type 0 = λ u. Contains u.bounds b in absurd (contains_none b (subst F e has))) (λ (l : IsLive kind space ws w). l.bounds b has) f
+  bounds_of : (ws : List ℕ) (w : View) → Fits model space ws w → (b : ℕ × ℕ) → Contains w.bounds b → IsBound model space ws b
+  bounds_of ws w f b has = ⊎_elim (λ (e : w ≡ spent_view). let F : View → Type 0 = λ u. Contains u.bounds b in absurd (contains_none b (subst F e has))) (λ (l : IsLive model space ws w). l.bounds b has) f
 
-  floor_of : (ws : List ℕ) (w : View) → Fits kind space ws w → w.floor ≤ counter ws
-  floor_of ws w f = ⊎_elim (λ (e : w ≡ spent_view). let q : w.floor ≡ 0 = ap (λ (u : View). u.floor) e in omega arith) (λ (l : IsLive kind space ws w). l.floor) f
+  floor_of : (ws : List ℕ) (w : View) → Fits model space ws w → w.floor ≤ counter ws
+  floor_of ws w f = ⊎_elim (λ (e : w ≡ spent_view). let q : w.floor ≡ 0 = ap (λ (u : View). u.floor) e in omega arith) (λ (l : IsLive model space ws w). l.floor) f
 
-  pub joins : (id : ℕ) (v : View) (other : ℕ) (w : View) → 1 ≤ v.weight → Joins (Kept kind space) id v other w (joined_view v w) spent_view
+  pub joins : (id : ℕ) (v : View) (other : ℕ) (w : View) → 1 ≤ v.weight → Joins (Kept model space) id v other w (joined_view v w) spent_view
   joins id v other w heavy s k at ne at' =
       let u : View = joined_view v w in
-      let live = live_of kind space s.words v (k.views id v at) heavy in
+      let live = live_of model space s.words v (k.views id v at) heavy in
       let was : get_elem? s.views other ≡ some w = sym (set_else s.views id other u ne) ∙ at' in
       let f = k.views other w was in
-      let ulive : IsLive kind space s.words u = record {
+      let ulive : IsLive model space s.words u = record {
         weight = omega arith;
         query = live.query;
         pairs = live.pairs;
@@ -75,6 +75,6 @@ module _ (kind : ℕ) (space : TreeSpace) where
         counts = joining (counter s.words) s.views id v other w k.counts at at';
         views = λ i a at''. ⊎_elim
             (λ (t : (i ≡ other) × (spent_view ≡ a)). inl (sym t.1))
-            (λ (t : (i ≢ other) × (get_elem? (set s.views id u) i ≡ some a)). each_set kind space s.words s.words s.views id u (le_refl _) (λ x. le_refl _) k.views ulive i a t.1)
+            (λ (t : (i ≢ other) × (get_elem? (set s.views id u) i ≡ some a)). each_set model space s.words s.words s.views id u (le_refl _) (λ x. le_refl _) k.views ulive i a t.1)
             (at_set (set s.views id u) other i spent_view a at'');
       }

@@ -9,14 +9,14 @@ use Rattle.memo_table.specs.declared.view.TreeSpace.{TreeSpace}
 use Rattle.memo_table.specs.Rule.{IsTreeSpace}
 
 -- the word of a relation alone is that of its leaf
-pub leaf_made : (kind : ℕ) (space : TreeSpace) (r : ℕ) → r < relations space.query → Made kind space.query space.pairs (single r) (leaf_word r)
-leaf_made kind space r l = record { tree = leaf r; made = l; over = refl; word = record { below = omega arith; is = refl } }
+pub leaf_made : (model : ℕ) (space : TreeSpace) (r : ℕ) → r < relations space.query → Made model space.query space.pairs (single r) (leaf_word r)
+leaf_made model space r l = record { tree = leaf r; made = l; over = refl; word = record { below = omega arith; is = refl } }
 
-module _ (kind : ℕ) (space : TreeSpace) (is : IsTreeSpace space) where
+module _ (model : ℕ) (space : TreeSpace) (is : IsTreeSpace space) where
   -- EMPTY is above each tree's word
-  pub made_below : (s w : ℕ) → Made kind space.query space.pairs s w → w < EMPTY
-  made_below s w m = made_word kind space.query space.pairs m.tree w is.query m.made m.word
+  pub made_below : (s w : ℕ) → Made model space.query space.pairs s w → w < EMPTY
+  made_below s w m = made_word model space.query space.pairs m.tree w is.query m.made m.word
 
   -- a relation alone has one word
-  pub leaf_least : (r : ℕ) → r < relations space.query → Least kind space.query space.pairs (single r) (leaf_word r)
-  leaf_least r l = least_single kind space.query space.pairs is.pairs r l
+  pub leaf_least : (r : ℕ) → r < relations space.query → Least model space.query space.pairs (single r) (leaf_word r)
+  leaf_least r l = least_single model space.query space.pairs is.pairs r l

@@ -11,5 +11,5 @@ use Rattle.memo_table.specs.Seats.{Settled}
 -- never falls again.
 abbrev pub SettledWordsAreFinal : Type 0
 SettledWordsAreFinal =
-    (kind : ℕ) (space : TreeSpace) (t : TableState) (seat s : ℕ) (v : View)
-    → Kept kind space t → get_elem? t.views seat ≡ some v → (x : Settled kind v s) → memo_word t.words s ≡ x.word
+    (model : ℕ) (space : TreeSpace) (t : TableState) (seat s : ℕ) (v : View)
+    → Kept model space t → get_elem? t.views seat ≡ some v → (x : Settled model v s) → memo_word t.words s ≡ x.word

@@ -44,10 +44,10 @@ pub record IsTreeSpace (space : TreeSpace) : Type 0 where
   pub query : IsQuery space.query
   pub pairs : (p : Pair) → Contains space.pairs p → Pairs (graph_of space.query) p
 
-module _ (kind : ℕ) (space : TreeSpace) where
+module _ (model : ℕ) (space : TreeSpace) where
   -- what a seat may know of a set's word, which is no greater
   pub record IsBound (words : List ℕ) (b : ℕ × ℕ) : Type 0 where
-    pub is : IsMadeBound kind space.query space.pairs b
+    pub is : IsMadeBound model space.query space.pairs b
     pub reached : memo_word words b.0 ≤ b.1
 
   -- what a seat that is not spent knows is true
@@ -62,7 +62,7 @@ module _ (kind : ℕ) (space : TreeSpace) where
   pub record AreMemoWords (words : List ℕ) : Type 0 where
     pub width : length words ≡ 2 ^ relations space.query + 1
     pub none : memo_word words 0 ≡ EMPTY
-    pub made : (s : ℕ) → IsEmptyOrMade kind space.query space.pairs s (memo_word words s)
+    pub made : (s : ℕ) → IsEmptyOrMade model space.query space.pairs s (memo_word words s)
 
   pub record Kept (s : TableState) : Type 0 where
     pub listed : IsTreeSpace space

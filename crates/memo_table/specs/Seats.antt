@@ -27,24 +27,24 @@ pub record IsSeatOf (memo : MemoTable) (seat : SeatView) : Type 0 where
   pub pairs : seat.view.pairs ≡ memo.pairs
 
 -- a set that is not empty, with the word of a tree over it
-pub record IsMadeBound (kind : ℕ) (q : JoinQuery) (pairs : List Pair) (b : ℕ × ℕ) : Type 0 where
+pub record IsMadeBound (model : ℕ) (q : JoinQuery) (pairs : List Pair) (b : ℕ × ℕ) : Type 0 where
   pub some : b.0 ≢ 0
   pub within : Within b.0 (full (relations q))
-  pub made : Made kind q pairs b.0 b.1
+  pub made : Made model q pairs b.0 b.1
 
 abbrev pub BoundsAreMade : ℕ → View → Type 0
-BoundsAreMade kind v = (b : ℕ × ℕ) → Contains v.bounds b → IsMadeBound kind v.query v.pairs b
+BoundsAreMade model v = (b : ℕ × ℕ) → Contains v.bounds b → IsMadeBound model v.query v.pairs b
 
 -- the bounds hold the set with the least word of a tree over it
-pub record Settled (kind : ℕ) (v : View) (s : ℕ) : Type 0 where
+pub record Settled (model : ℕ) (v : View) (s : ℕ) : Type 0 where
   pub word : ℕ
   pub bound : Contains v.bounds (s, word)
-  pub least : Least kind v.query v.pairs s word
+  pub least : Least model v.query v.pairs s word
 
 -- what each seat keeps, so that its holder knows it without a step
-pub record IsSeated (kind : ℕ) (s : Seat (Unit {0}) View) : Type 0 where
+pub record IsSeated (model : ℕ) (s : Seat (Unit {0}) View) : Type 0 where
   pub no_slot : s.me.1 ≡ []
   pub weight : 1 ≤ s.me.0.weight
   pub width : s.table_id.words ≡ 2 ^ relations s.me.0.query + 1
   pub small : s.table_id.words ≤ SPAN + 1
-  pub bounds : BoundsAreMade kind s.me.0
+  pub bounds : BoundsAreMade model s.me.0

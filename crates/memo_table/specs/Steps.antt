@@ -12,14 +12,14 @@ abbrev pub SeatState : Type 0
 SeatState = Me (Unit {0}) View
 
 -- the word found is a bound more: that of a tree over the set, and at most each bound of the set
-pub record FindsWord (kind s : ℕ) (v : View) (n : ℕ) (w : View) : Type 0 where
+pub record LoadsWord (model s : ℕ) (v : View) (n : ℕ) (w : View) : Type 0 where
   pub view : w ≡ with_bound v s n
-  pub made : Made kind v.query v.pairs s n
+  pub made : Made model v.query v.pairs s n
   pub some : n < EMPTY
   pub least : (b : ℕ) → Contains v.bounds (s, b) → n ≤ b
 
 abbrev pub load_tells : ℕ → Step (Unit {0}) → SeatState → ℕ → SeatState → Type 0
-load_tells kind st m n m' = (m'.1 ≡ m.1) × ((s : ℕ) → st.word ≡ s + 1 → FindsWord kind s m.0 n m'.0)
+load_tells model st m n m' = (m'.1 ≡ m.1) × ((s : ℕ) → st.word ≡ s + 1 → LoadsWord model s m.0 n m'.0)
 
 abbrev pub offer_tells : Step (Unit {0}) → SeatState → ℕ → SeatState → Type 0
 offer_tells st m n m' = (m'.1 ≡ m.1) × ((s : ℕ) → st.word ≡ s + 1 → m'.0 ≡ with_offer m.0 s st.first)
@@ -34,14 +34,14 @@ abbrev pub draw_tells : Step (Unit {0}) → SeatState → ℕ → SeatState → 
 draw_tells st m n m' = (m'.1 ≡ m.1) × DrawsTicket m.0 n m'.0
 
 -- the counter is at or above the floor and above each ticket; who has the whole weight has all numbers below it
-pub record SeesCounter (v : View) (n : ℕ) (w : View) : Type 0 where
+pub record SeesDrawn (v : View) (n : ℕ) (w : View) : Type 0 where
   pub view : w ≡ with_floor v n
   pub floor : v.floor ≤ n
   pub above : All (λ x. x < n) v.tickets
   pub all : v.weight ≡ WEIGHT → EachOnceBelow n v.tickets
 
-abbrev pub look_tells : Step (Unit {0}) → SeatState → ℕ → SeatState → Type 0
-look_tells st m n m' = (m'.1 ≡ m.1) × SeesCounter m.0 n m'.0
+abbrev pub drawn_tells : Step (Unit {0}) → SeatState → ℕ → SeatState → Type 0
+drawn_tells st m n m' = (m'.1 ≡ m.1) × SeesDrawn m.0 n m'.0
 
 -- the key's view is the one that was named
 abbrev pub names : TreeSpace → Step (Unit {0}) → Me (Unit {0}) TreeSpace → ℕ → Me (Unit {0}) TreeSpace → Type 0

@@ -15,7 +15,7 @@ use crate::memo::Memo;
 use crate::rule::Key;
 use crate::seat::MemoSeat;
 use atomic_table::Table;
-use cost_model::CostModel;
+use cost_model::{CostModel, LEAF};
 use dpe_base::{DRAWS, EMPTY, N_MAX, Query, RelSet, SPAN, WEIGHT};
 use pair_stream::PairStream;
 use std::alloc::{AllocError, Global};
@@ -26,7 +26,7 @@ fn leaf_word(r: u8) -> u64
     requires { r < N_MAX }
     ensures { result ≡ leaf_word r }
 {
-    3 * SPAN + RelSet::single(r).bits() as u64
+    LEAF as u64 * SPAN + RelSet::single(r).bits() as u64
 }
 
 // The counter, and an empty word for each set.

@@ -8,7 +8,7 @@ ghost use Rattle.memo_table.specs.Views.{EachOnceBelow, with_bound, with_offer, 
 
 use crate::rule::{Key, MemoRule};
 use crate::seat::MemoSeat;
-use crate::steps::{find_counter, find_word, lower_word, take_ticket};
+use crate::steps::{draw, drawn, load, offer};
 use crate::view::View;
 use atomic_table::Table;
 use cost_model::CostModel;
@@ -60,7 +60,7 @@ impl<M: CostModel> Memo<M> {
         ensures least { (w : ℕ) → Contains seat.old.view.bounds (s, w) → result ≤ w }
         ensures settled { Settled M.KIND seat.old.view s → Least M.KIND self.now.query self.now.pairs s result }
     {
-        find_word(&self.table.shared, &mut seat.seat, place_of(s))
+        load(&self.table.shared, &mut seat.seat, place_of(s))
     }
 
     /// The word of the set becomes the lesser of what it was and `w`, in one step.
@@ -72,7 +72,7 @@ impl<M: CostModel> Memo<M> {
         ensures table { seat.new.table ≡ seat.old.table }
         ensures view { seat.new.view ≡ with_offer seat.old.view s w }
     {
-        lower_word(&self.table.shared, &mut seat.seat, place_of(s), w);
+        offer(&self.table.shared, &mut seat.seat, place_of(s), w);
     }
 
     /// A number that no seat drew before, in one step. It is a ticket of this seat from then on.
@@ -85,7 +85,7 @@ impl<M: CostModel> Memo<M> {
         ensures floor { seat.old.view.floor ≤ result }
         ensures above { All (λ x. x < result) seat.old.view.tickets }
     {
-        take_ticket(&self.table.shared, &mut seat.seat)
+        draw(&self.table.shared, &mut seat.seat)
     }
 
     /// How many numbers all seats have drawn. With the whole weight, these are the seat's own tickets.
@@ -98,6 +98,6 @@ impl<M: CostModel> Memo<M> {
         ensures all { seat.old.view.weight ≡ WEIGHT → EachOnceBelow result seat.old.view.tickets }
         ensures made { BoundsAreMade M.KIND seat.new.view }
     {
-        find_counter(&self.table.shared, &mut seat.seat)
+        drawn(&self.table.shared, &mut seat.seat)
     }
 }

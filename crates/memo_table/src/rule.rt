@@ -56,12 +56,12 @@ impl Play<(), View> for Draw {
 }
 
 /// A load of the counter.
-pub struct Look;
+pub struct Drawn;
 
-impl Play<(), View> for Look {
-    ghost use Rattle.memo_table.specs.Steps.{look_tells};
+impl Play<(), View> for Drawn {
+    ghost use Rattle.memo_table.specs.Steps.{drawn_tells};
 
-    ghost then = { look_tells };
+    ghost then = { drawn_tells };
 }
 
 /// How many draws a split gives away. A call picks it.
@@ -74,11 +74,11 @@ impl Given for Brand {
 }
 
 /// A seat gives a part of what it has to a new one.
-pub struct GivePart<D: Given> {
+pub struct SplitSeat<D: Given> {
     draws: PhantomData<D>,
 }
 
-impl<D: Given> Split<View> for GivePart<D> {
+impl<D: Given> Split<View> for SplitSeat<D> {
     ghost use Rattle.memo_table.specs.Views.{kept_part, given_part};
 
     ghost left = { kept_part D.draws };
@@ -87,9 +87,9 @@ impl<D: Given> Split<View> for GivePart<D> {
 }
 
 /// A seat takes in all that another knows and has.
-pub struct TakeAll;
+pub struct JoinSeat;
 
-impl Join<View> for TakeAll {
+impl Join<View> for JoinSeat {
     ghost use Rattle.memo_table.specs.Views.{joined_view, spent_view};
 
     ghost both = { joined_view };

@@ -6,7 +6,7 @@ ghost use Rattle.memo_table.specs.Views.{kept_part, given_part, joined_view};
 use crate::memo::Memo;
 use crate::rule::Given;
 use crate::seat::MemoSeat;
-use crate::steps::{give_part, take_all};
+use crate::steps::{join, split};
 use cost_model::CostModel;
 use std::marker::{Brand, PhantomData};
 
@@ -34,7 +34,7 @@ impl<M: CostModel> Memo<M> {
         ensures new { result.view ≡ given_part draws seat.old.view }
     {
         let _ = draws;
-        let part = give_part::<M, D>(&self.table.shared, &mut seat.seat);
+        let part = split::<M, D>(&self.table.shared, &mut seat.seat);
         MemoSeat {
             seat: part,
             model: PhantomData,
@@ -52,6 +52,6 @@ impl<M: CostModel> Memo<M> {
             seat: part,
             model: _,
         } = other;
-        take_all(&self.table.shared, &mut seat.seat, part);
+        join(&self.table.shared, &mut seat.seat, part);
     }
 }

@@ -3,16 +3,16 @@ ghost use Rattle.std.specs.Prelude.{◌≡◌, ℕ, ◌+◌, ◌%◌, ◌^◌, �
 ghost use mathlib.Core.Option.{none};
 ghost use Rattle.atomic_table.specs.Table.{step, Allows, Splits, Joins};
 ghost use Rattle.memo_table.specs.Rule.{Kept};
-ghost use Rattle.memo_table.specs.Steps.{load_tells, offer_tells, draw_tells, look_tells};
+ghost use Rattle.memo_table.specs.Steps.{load_tells, offer_tells, draw_tells, drawn_tells};
 ghost use Rattle.memo_table.specs.Views.{kept_part, given_part, joined_view, spent_view};
 
-use crate::rule::{Draw, GivePart, Given, Load, Look, Offer, SharedWords, TakeAll};
+use crate::rule::{Draw, Drawn, Given, JoinSeat, Load, Offer, SharedWords, SplitSeat};
 use crate::view::View;
 use atomic_table::Seat;
 use cost_model::CostModel;
 
-// Finds a memo word.
-pub(crate) fn find_word<M: CostModel>(
+// Loads a memo word.
+pub(crate) fn load<M: CostModel>(
     words: &SharedWords<M>,
     seat: &mut Seat<(), View>,
     place: usize,
@@ -26,8 +26,8 @@ pub(crate) fn find_word<M: CostModel>(
     words.load::<Load<M>>(seat, place)
 }
 
-// The memo word becomes the lesser of what it was and `word`.
-pub(crate) fn lower_word<M: CostModel>(
+// Offers a word: the memo word becomes the lesser of what it was and `word`.
+pub(crate) fn offer<M: CostModel>(
     words: &SharedWords<M>,
     seat: &mut Seat<(), View>,
     place: usize,
@@ -42,8 +42,8 @@ pub(crate) fn lower_word<M: CostModel>(
     words.fetch_min::<Offer>(seat, place, word);
 }
 
-// The counter rises by 1. It answers what it was.
-pub(crate) fn take_ticket<M: CostModel>(words: &SharedWords<M>, seat: &mut Seat<(), View>) -> u64
+// Draws a ticket: the counter rises by 1. It answers what it was.
+pub(crate) fn draw<M: CostModel>(words: &SharedWords<M>, seat: &mut Seat<(), View>) -> u64
     requires table { seat.old.table_id ≡ words.now.table_id }
     requires place { 0 < words.now.table_id.words }
     requires kept { Allows (Kept M.KIND words.now.key.me.0) words.now.table_id.slots seat.old.id seat.old.me 0 (λ n. (n + 1) % 2 ^ 64) (draw_tells (step words.now.table_id.slots 0 1 0 none) seat.old.me) }
@@ -53,19 +53,19 @@ pub(crate) fn take_ticket<M: CostModel>(words: &SharedWords<M>, seat: &mut Seat<
     words.fetch_add::<Draw>(seat, 0, 1)
 }
 
-// Finds the counter.
-pub(crate) fn find_counter<M: CostModel>(words: &SharedWords<M>, seat: &mut Seat<(), View>) -> u64
+// Loads the counter: how many tickets all seats have drawn.
+pub(crate) fn drawn<M: CostModel>(words: &SharedWords<M>, seat: &mut Seat<(), View>) -> u64
     requires table { seat.old.table_id ≡ words.now.table_id }
     requires place { 0 < words.now.table_id.words }
-    requires kept { Allows (Kept M.KIND words.now.key.me.0) words.now.table_id.slots seat.old.id seat.old.me 0 (λ n. n) (look_tells (step words.now.table_id.slots 0 0 0 none) seat.old.me) }
+    requires kept { Allows (Kept M.KIND words.now.key.me.0) words.now.table_id.slots seat.old.id seat.old.me 0 (λ n. n) (drawn_tells (step words.now.table_id.slots 0 0 0 none) seat.old.me) }
     ensures table { seat.new.table_id ≡ seat.old.table_id }
-    ensures told { look_tells (step words.now.table_id.slots 0 0 0 none) seat.old.me result seat.new.me }
+    ensures told { drawn_tells (step words.now.table_id.slots 0 0 0 none) seat.old.me result seat.new.me }
 {
-    words.load::<Look>(seat, 0)
+    words.load::<Drawn>(seat, 0)
 }
 
-// A new seat gets a part of what the seat has.
-pub(crate) fn give_part<M: CostModel, D: Given>(
+// Splits the seat: a new one gets a part of what the seat has.
+pub(crate) fn split<M: CostModel, D: Given>(
     words: &SharedWords<M>,
     seat: &mut Seat<(), View>,
 ) -> Seat<(), View>
@@ -76,11 +76,11 @@ pub(crate) fn give_part<M: CostModel, D: Given>(
     ensures old { seat.new.me ≡ (kept_part D.draws seat.old.me.0, seat.old.me.1) }
     ensures new { result.me ≡ (given_part D.draws seat.old.me.0, []) }
 {
-    words.split_seat::<GivePart<D>>(seat)
+    words.split_seat::<SplitSeat<D>>(seat)
 }
 
-// The seat takes in all that the other knows and has.
-pub(crate) fn take_all<M: CostModel>(
+// Joins the other seat: the seat takes in all that the other knows and has.
+pub(crate) fn join<M: CostModel>(
     words: &SharedWords<M>,
     seat: &mut Seat<(), View>,
     other: Seat<(), View>,
@@ -92,5 +92,5 @@ pub(crate) fn take_all<M: CostModel>(
     ensures table { seat.new.table_id ≡ seat.old.table_id }
     ensures view { seat.new.me ≡ (joined_view seat.old.me.0 other.me.0, seat.old.me.1) }
 {
-    words.join_seat::<TakeAll>(seat, other);
+    words.join_seat::<JoinSeat>(seat, other);
 }

@@ -2,7 +2,7 @@ ghost use Rattle.std.specs.Prelude.{◌≡◌, ◌≤◌, [], ◌∷◌, IfOk, v
 ghost use Rattle.memo_table.specs.Seats.{IsSeatOf};
 
 use crate::{Memo, MemoSeat};
-use cost_model::Ops;
+use cost_model::{LEAF, Ops};
 use dpe_base::{EMPTY, Pred, Query, Rel, RelSet, SPAN};
 use join_graph::Graph;
 use pair_stream::DpSub;
@@ -61,7 +61,13 @@ fn a_greater_word_lowers_nothing(rt: HostRuntime) -> Result<(), Fail> {
     let words = memo.finish(seat);
     assert_eq!(rt;
         words.row(),
-        [EMPTY, 3 * SPAN + 1, 3 * SPAN + 2, FIRST_LEFT].as_slice()
+        [
+            EMPTY,
+            LEAF as u64 * SPAN + 1,
+            LEAF as u64 * SPAN + 2,
+            FIRST_LEFT
+        ]
+        .as_slice()
     );
     assert_eq!(rt; words.drawn(), 2);
     Ok(())

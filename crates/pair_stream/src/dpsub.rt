@@ -59,7 +59,7 @@ fn is_split(graph: &Graph, set: RelSet, a: RelSet) -> bool
     requires least { Has a (least set) }
     ensures { result ≡ is_split graph.now set a }
 {
-    let _n = graph.n();
+    graph.recall();
     if !graph.connected(set.minus(a)) {
         return false;
     }
@@ -77,7 +77,7 @@ impl DpSub {
         ensures probes { (s : List Pair) → ⟦<DpSub as PairStream>⟧.probed s ≡ 0 }
         ensures total { ⟦<DpSub as PairStream>⟧.total result ≡ 0 }
     {
-        let _n = graph.n();
+        graph.recall();
         DpSub {
             graph: *graph,
             set: RelSet::empty(),

@@ -5,4 +5,4 @@ use Rattle.enum_dpccp.proofs.growth.neighbours_outside.Goals as goal
 
 pub returns : goal.returns
 returns c =
-    c.minus.ensures ∙ ap (λ s. minus s c.args.x) (neighbours_one c.args.graph.now c.args.s c.neighbours.result c.n-n.ensures.valid c.neighbours.ensures)
+    c.minus.ensures ∙ ap (λ s. minus s c.args.x) (neighbours_one c.args.graph.now c.args.s c.neighbours.result c.recall.ensures c.neighbours.ensures)

@@ -27,7 +27,7 @@ pub overflow_add-probes-in-Some : goal.overflow_add-probes-in-Some
 overflow_add-probes-in-Some g c =
     let f : IsFirstFree c.args.ys.now c.args.x c.row.next c.in-Some.place c.in-Some.y = rw c.in-Some.is at c.next_free-free.ensures.found in
     let n : c.next_free-free.result.probes ≡ probes c.args.ys.now c.row.next c.args.x (c.in-Some.place + 1 - c.row.next) = rw c.in-Some.is at c.next_free-free.ensures.probes in
-    omega (arith, c.row.invariant.probes, c.requires.room, found_counted c.args.ys.now c.args.x c.row.next c.in-Some.place c.in-Some.y c.next_free-free.result.probes c.len.ensures.part (entries_small c.args.graph.now c.args.ys.now c.n-n.ensures.valid c.requires.ys) f n)
+    omega (arith, c.row.invariant.probes, c.requires.room, found_counted c.args.ys.now c.args.x c.row.next c.in-Some.place c.in-Some.y c.next_free-free.result.probes c.len.ensures.part (entries_small c.args.graph.now c.args.ys.now c.recall.ensures c.requires.ys) f n)
 
 pub returns-then-is_joinable-clause-pair : goal.returns-then-is_joinable-clause-pair
 returns-then-is_joinable-clause-pair g c =
@@ -38,7 +38,7 @@ pub returns-then-is_joinable-clause-probes : goal.returns-then-is_joinable-claus
 returns-then-is_joinable-clause-probes g c =
     let f : IsFirstFree c.args.ys.now c.args.x c.row.next c.in-Some.place c.in-Some.y = rw c.in-Some.is at c.next_free-free.ensures.found in
     let n : c.next_free-free.result.probes ≡ probes c.args.ys.now c.row.next c.args.x (c.in-Some.place + 1 - c.row.next) = rw c.in-Some.is at c.next_free-free.ensures.probes in
-    omega (arith, c.row.invariant.probes, found_counted c.args.ys.now c.args.x c.row.next c.in-Some.place c.in-Some.y c.next_free-free.result.probes c.len.ensures.part (entries_small c.args.graph.now c.args.ys.now c.n-n.ensures.valid c.requires.ys) f n)
+    omega (arith, c.row.invariant.probes, found_counted c.args.ys.now c.args.x c.row.next c.in-Some.place c.in-Some.y c.next_free-free.result.probes c.len.ensures.part (entries_small c.args.graph.now c.args.ys.now c.recall.ensures c.requires.ys) f n)
 
 pub row-preserved : goal.row-preserved
 row-preserved g c =
@@ -46,7 +46,7 @@ row-preserved g c =
     let n : c.next_free-free.result.probes ≡ probes c.args.ys.now c.row.next c.args.x (c.in-Some.place + 1 - c.row.next) = rw c.in-Some.is at c.next_free-free.ensures.probes in
     record {
       pairs = c.row.invariant.pairs ∙ found_passed c.args.graph.now c.args.ys.now c.args.x c.row.next c.in-Some.place c.in-Some.y f (sym c.if-is_joinable.false ∙ c.is_joinable.ensures);
-      probes = omega (arith, c.row.invariant.probes, found_counted c.args.ys.now c.args.x c.row.next c.in-Some.place c.in-Some.y c.next_free-free.result.probes c.len.ensures.part (entries_small c.args.graph.now c.args.ys.now c.n-n.ensures.valid c.requires.ys) f n);
+      probes = omega (arith, c.row.invariant.probes, found_counted c.args.ys.now c.args.x c.row.next c.in-Some.place c.in-Some.y c.next_free-free.result.probes c.len.ensures.part (entries_small c.args.graph.now c.args.ys.now c.recall.ensures c.requires.ys) f n);
       steps = omega (arith, c.next_free-free.ensures.steps, c.row.invariant.steps);
       forward = omega (arith, c.next_free-free.ensures.steps, c.row.invariant.forward);
     }

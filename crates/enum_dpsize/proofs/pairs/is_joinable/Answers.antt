@@ -7,4 +7,4 @@ returns-then-meets c = not_joinable c.args.graph.now c.args.x c.args.y (c.meets.
 
 pub returns : goal.returns
 returns c =
-    joinable_by c.args.graph.now c.args.x c.args.around c.args.y c.meets-2.result c.n-n.ensures.valid c.requires (iff_false c.meets.ensures c.if-meets.false) c.meets-2.ensures
+    joinable_by c.args.graph.now c.args.x c.args.around c.args.y c.meets-2.result c.recall.ensures c.requires (iff_false c.meets.ensures c.if-meets.false) c.meets-2.ensures

@@ -10,9 +10,9 @@ connected-requires c =
 
 pub returns-then-not-connected : goal.returns-then-not-connected
 returns-then-not-connected c =
-    sym (not_second c.args.graph.now c.args.set c.args.a c.n-n.ensures.valid (iff_false (rw c.minus.ensures at c.connected.ensures) c.if-not-connected.true))
+    sym (not_second c.args.graph.now c.args.set c.args.a c.recall.ensures (iff_false (rw c.minus.ensures at c.connected.ensures) c.if-not-connected.true))
 
 pub returns : goal.returns
 returns c =
-    by_first c.args.graph.now c.args.set c.args.a c.connected-2.result c.n-n.ensures.valid c.requires.least
+    by_first c.args.graph.now c.args.set c.args.a c.connected-2.result c.recall.ensures c.requires.least
     ((rw c.minus.ensures at c.connected.ensures).0 c.if-not-connected.false) c.connected-2.ensures

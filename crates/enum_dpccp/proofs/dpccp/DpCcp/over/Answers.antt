@@ -10,9 +10,9 @@ returns-clause-list c = started c.args.graph.now c.over.result c.empty.result c.
 pub returns-clause-complete : goal.returns-clause-complete
 returns-clause-complete c =
     subst (Complete c.args.graph.now) (sym (started c.args.graph.now c.over.result c.empty.result c.none.result c.over.ensures.left c.none.ensures.left))
-    (dpccp_complete c.args.graph.now c.n-n.ensures.valid)
+    (dpccp_complete c.args.graph.now c.recall.ensures)
 
 pub returns-clause-ordered : goal.returns-clause-ordered
 returns-clause-ordered c =
     subst Ordered (sym (started c.args.graph.now c.over.result c.empty.result c.none.result c.over.ensures.left c.none.ensures.left))
-    (dpccp_ordered c.args.graph.now c.n-n.ensures.valid)
+    (dpccp_ordered c.args.graph.now c.recall.ensures)

@@ -9,10 +9,10 @@ returns-clause-left c =
     elim c.if-bits.branch [
       | then-bits w ↦
           enter_left c.args.graph.now c.args.self.now.calling.items c.if-bits.self.calling.items c.args.call.now c.args.child.now c.union.result c.union-2.result c.empty.result
-          c.n-n.ensures.valid c.requires.child (ap (λ s. s.calling.items) w.self-is ∙ w.push.ensures.items) c.union.ensures c.union-2.ensures c.empty.ensures
+          c.recall.ensures c.requires.child (ap (λ s. s.calling.items) w.self-is ∙ w.push.ensures.items) c.union.ensures c.union-2.ensures c.empty.ensures
       | else-bits w ↦
           enter_last c.args.graph.now c.args.self.now.calling.items c.if-bits.self.calling.items c.args.call.now c.args.child.now c.union.result c.union-2.result c.empty.result
-          c.n-n.ensures.valid c.requires.child (ap (λ s. s.calling.items) w.self-is) (sym c.bits.ensures ∙ w.if-bits.false ∙ c.bits-2.ensures) c.union.ensures c.union-2.ensures c.empty.ensures
+          c.recall.ensures c.requires.child (ap (λ s. s.calling.items) w.self-is) (sym c.bits.ensures ∙ w.if-bits.false ∙ c.bits-2.ensures) c.union.ensures c.union-2.ensures c.empty.ensures
     ]
 
 pub returns-clause-fits : goal.returns-clause-fits
@@ -21,9 +21,9 @@ returns-clause-fits c =
     elim c.if-bits.branch [
       | then-bits w ↦
           enter_fits c.args.graph.now c.args.self.now.calling.items c.if-bits.self.calling.items c.args.call.now c.args.child.now c.union.result c.union-2.result c.empty.result
-          c.n-n.ensures.valid c.requires.calling c.requires.call c.requires.child (ap (λ s. s.calling.items) w.self-is ∙ w.push.ensures.items) c.union.ensures c.union-2.ensures c.empty.ensures
+          c.recall.ensures c.requires.calling c.requires.call c.requires.child (ap (λ s. s.calling.items) w.self-is ∙ w.push.ensures.items) c.union.ensures c.union-2.ensures c.empty.ensures
       | else-bits w ↦
           enter_last_fits c.args.graph.now c.args.self.now.calling.items c.if-bits.self.calling.items c.args.call.now c.args.child.now c.union.result c.union-2.result c.empty.result
-          c.n-n.ensures.valid c.requires.calling c.requires.call c.requires.child (ap (λ s. s.calling.items) w.self-is) c.union.ensures c.union-2.ensures c.empty.ensures
+          c.recall.ensures c.requires.calling c.requires.call c.requires.child (ap (λ s. s.calling.items) w.self-is) c.union.ensures c.union-2.ensures c.empty.ensures
     ] in
     record { calling = fits.0; giving = fits.1 }

@@ -27,7 +27,7 @@ pub returns-in-None-clause-fits : goal.returns-in-None-clause-fits
 returns-in-None-clause-fits c =
     let none : (calling_left c.args.graph.now c.calls.self.calling.items ≡ []) × (c.pop.new.self.items ≡ []) =
     none_left c.args.graph.now c.calls.self.calling.items c.pop.new.self.items c.in-None.ensures.items (λ l. false≢true (c.in-None.ensures.variant.1 l)) in
-    let fits = spent_fits c.args.graph.now c.spent-self.result c.pop.new.self.items c.n-n.ensures.valid c.spent-self.ensures none.1 in
+    let fits = spent_fits c.args.graph.now c.spent-self.result c.pop.new.self.items c.recall.ensures c.spent-self.ensures none.1 in
     record { calling = fits.0; giving = fits.1 }
 
 pub returns-in-None-clause-none : goal.returns-in-None-clause-none

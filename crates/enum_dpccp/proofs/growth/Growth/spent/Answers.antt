@@ -6,5 +6,5 @@ returns-clause-left c = spent_left c.args.graph.now c.spent.result c.new.result.
 
 pub returns-clause-fits : goal.returns-clause-fits
 returns-clause-fits c =
-    let fits = spent_fits c.args.graph.now c.spent.result c.new.result.items c.n-n.ensures.valid c.spent.ensures c.new.ensures in
+    let fits = spent_fits c.args.graph.now c.spent.result c.new.result.items c.recall.ensures c.spent.ensures c.new.ensures in
     record { calling = fits.0; giving = fits.1 }

@@ -11,5 +11,5 @@ pub returns-clause-fits : goal.returns-clause-fits
 returns-clause-fits c =
     record {
       growth = c.requires.fits.growth;
-      starts = starts_known c.args.graph.now c.args.a c.excluded-self.result c.neighbours_outside-self.result c.n-n.ensures.valid c.neighbours_outside-self.ensures;
+      starts = starts_known c.args.graph.now c.args.a c.excluded-self.result c.neighbours_outside-self.result c.recall.ensures c.neighbours_outside-self.ensures;
     }

@@ -12,13 +12,13 @@ returns-in_default-clause-set c = (
 
 pub single-start-requires : goal.single-start-requires
 single-start-requires c =
-    let room : c.in-Some.i < N_MAX = (greatest_room c.args.graph.now c.args.self.now.starts c.in-Some.i c.n-n.ensures.valid c.requires.fits.starts c.in-Some.ensures).1 in
+    let room : c.in-Some.i < N_MAX = (greatest_room c.args.graph.now c.args.self.now.starts c.in-Some.i c.recall.ensures c.requires.fits.starts c.in-Some.ensures).1 in
     omega arith
 
 pub begin-requires-clause-known : goal.begin-requires-clause-known
 begin-requires-clause-known c =
     start_known c.args.graph.now c.in-Some.i c.single-start.result c.single-start.ensures
-    (greatest_room c.args.graph.now c.args.self.now.starts c.in-Some.i c.n-n.ensures.valid c.requires.fits.starts c.in-Some.ensures).0
+    (greatest_room c.args.graph.now c.args.self.now.starts c.in-Some.i c.recall.ensures c.requires.fits.starts c.in-Some.ensures).0
 
 pub begin-requires-clause-some : goal.begin-requires-clause-some
 begin-requires-clause-some c = start_some c.in-Some.i c.single-start.result c.single-start.ensures

@@ -13,17 +13,17 @@ use Rattle.join_tree.proofs.tree.Tree.root_word.Goals as goal
 pub of-requires-clause-left : goal.of-requires-clause-left
 of-requires-clause-left g c =
     let known : c.in-Leaf.r < relations c.args.query.now = subst (λ x. Legal g.M.CostModel.KIND (graph_of c.args.query.now) (tree_of x)) c.in-Leaf.is c.requires in
-    rw c.single.ensures (within_span (single c.in-Leaf.r) (relations c.args.query.now) (connected_single (graph_of c.args.query.now) c.in-Leaf.r known).within c.n-n.ensures.valid.few)
+    rw c.single.ensures (within_span (single c.in-Leaf.r) (relations c.args.query.now) (connected_single (graph_of c.args.query.now) c.in-Leaf.r known).within c.recall.ensures.few)
 
 pub set-requires : goal.set-requires
 set-requires g c =
     subst (λ x. LeavesBelow 32 (tree_of x)) (sym c.deref.ensures)
-    (legal_join g.M.CostModel.KIND (graph_of c.args.query.now) c.in-Join.op (tree_of c.in-Join.left.value) (tree_of c.in-Join.right.value) (tree_of c.args.self.now) c.n-n.ensures.valid.few (ap tree_of c.in-Join.is) c.requires).left_leaves
+    (legal_join g.M.CostModel.KIND (graph_of c.args.query.now) c.in-Join.op (tree_of c.in-Join.left.value) (tree_of c.in-Join.right.value) (tree_of c.args.self.now) c.recall.ensures.few (ap tree_of c.in-Join.is) c.requires).left_leaves
 
 pub of-requires-in-Join-clause-left : goal.of-requires-in-Join-clause-left
 of-requires-in-Join-clause-left g c =
     rw (c.set.ensures, c.deref.ensures)
-    (within_span (set_of (tree_of c.in-Join.left.value)) (relations c.args.query.now) (legal_join g.M.CostModel.KIND (graph_of c.args.query.now) c.in-Join.op (tree_of c.in-Join.left.value) (tree_of c.in-Join.right.value) (tree_of c.args.self.now) c.n-n.ensures.valid.few (ap tree_of c.in-Join.is) c.requires).left_connected.within c.n-n.ensures.valid.few)
+    (within_span (set_of (tree_of c.in-Join.left.value)) (relations c.args.query.now) (legal_join g.M.CostModel.KIND (graph_of c.args.query.now) c.in-Join.op (tree_of c.in-Join.left.value) (tree_of c.in-Join.right.value) (tree_of c.args.self.now) c.recall.ensures.few (ap tree_of c.in-Join.is) c.requires).left_connected.within c.recall.ensures.few)
 
 pub returns-in-Leaf : goal.returns-in-Leaf
 returns-in-Leaf g c =

@@ -5,12 +5,12 @@ use Rattle.memo_table.proofs.SeatSteps.{joins}
 use Rattle.memo_table.proofs.SeatLaws.{seated, made_joined}
 use Rattle.memo_table.proofs.memo.Memo.join.Goals as goal
 
-pub take_all-requires-clause-kept : goal.take_all-requires-clause-kept
-take_all-requires-clause-kept g c κs within = joins _ _ _ _ _ _ c.seat.invariant.weight
+pub join-requires-clause-kept : goal.join-requires-clause-kept
+join-requires-clause-kept g c κs within = joins _ _ _ _ _ _ c.seat.invariant.weight
 
 pub invariant_of-seat : goal.invariant_of-seat
 invariant_of-seat g c =
-    let e = c.take_all.ensures in
+    let e = c.join.ensures in
     let q : c.other.inside.seat.me.0.query ≡ c.seat.inside.seat.me.0.query = search rules in
     let p : c.other.inside.seat.me.0.pairs ≡ c.seat.inside.seat.me.0.pairs = search rules in
     let heavy : 1 ≤ c.seat.inside.seat.me.0.weight + c.other.inside.seat.me.0.weight = let h = c.seat.invariant.weight in omega arith in

@@ -9,9 +9,9 @@ returns-clause-list c = left_at c.args.graph.now c.empty.result c.empty-2.result
 pub returns-clause-complete : goal.returns-clause-complete
 returns-clause-complete c =
     subst (Complete c.args.graph.now) (sym (left_at c.args.graph.now c.empty.result c.empty-2.result c.empty.ensures c.empty-2.ensures))
-    (dpsub_laws c.args.graph.now c.n-n.ensures.valid).0
+    (dpsub_laws c.args.graph.now c.recall.ensures).0
 
 pub returns-clause-ordered : goal.returns-clause-ordered
 returns-clause-ordered c =
     subst Ordered (sym (left_at c.args.graph.now c.empty.result c.empty-2.result c.empty.ensures c.empty-2.ensures))
-    (dpsub_laws c.args.graph.now c.n-n.ensures.valid).1
+    (dpsub_laws c.args.graph.now c.recall.ensures).1
