@@ -1,4 +1,12 @@
-//! How many rows the join of a set of relations has: scaled numbers, and cardinalities by set.
+//! How many rows the join of a set of relations has.
+//!
+//! The cardinality of a set is the product of its relations' rows, of what their filters keep and of the selectivities of all
+//! predicates inside the set, in a fixed order and with stated rounding. So it depends on the set alone, and not on
+//! the tree that makes it. [`Scaled`] is the number in which it is computed: a mantissa of 32 binary digits and a scale, which no
+//! product of a query takes out of range. Rows are rounded up, and are at least 1 and at most `ROW_CAP`.
+//!
+//! Begin with `rows_once` in `cards.rt`, for one set; [`CardTable`] has the same number for every set, each computed from the
+//! set without its greatest relation.
 #![tactic(auto)]
 
 mod cards;

@@ -1,4 +1,12 @@
 //! What every layer speaks of: sets of relations, join queries, pairs of sets, and the limits.
+//!
+//! A [`RelSet`] is one number: relation `r` is in it where the binary digit `r` is 1. A [`Query`] is a list of relations, each
+//! with its rows and the fraction that its filter keeps, and a list of join predicates with their selectivities; it is made by
+//! [`Query::new`] alone, which refuses what is outside the limits. A [`Pair`] is the two sides of a join.
+//!
+//! The limits are constants of this file, and what follows from one is written by its name in every crate. So a limit is
+//! changed here alone, within what the `prove!`s at the end demand of them.
+//! Begin with `rel_set.rt` and `query.rt`; `laws` says in terms of members what the operations on sets are.
 #![tactic(auto)]
 
 mod kind;
@@ -45,10 +53,10 @@ pub const WORKERS_MAX: u32 = 64;
 /// The most pairs that a buffer holds.
 pub const BUFFER_MAX: u32 = 65_536;
 
-/// The sum of the weights of all seats at a memo: one for each worker, and one that stays.
+/// Of the memo: the sum of the weights of all seats, one for each worker and one that stays.
 pub const WEIGHT: u64 = 65;
 
-/// The tickets of a memo, both those that were drawn and those that may still be drawn.
+/// Of the memo: its tickets, both those that were drawn and those that may still be drawn.
 pub const DRAWS: u64 = 1 << 62;
 
 const _: () = prove!(WEIGHT == WORKERS_MAX as u64 + 1);

@@ -1,5 +1,11 @@
-//! Streams of pairs of connected sets: what every enumerator keeps, the connected sets by size,
-//! and the enumeration by unions.
+//! Streams of pairs, as every enumerator gives them, the connected sets by size, and DPsub.
+//!
+//! A [`PairStream`] is seen as the list of the pairs that it has left. What a search needs of this list are two properties that
+//! each enumerator's constructor promises: it is complete, having each csg-cmp-pair of the graph once, and ordered, each pair
+//! standing after those that build its sides (`specs/Orders.antt`). So a search needs to know no enumerator.
+//!
+//! Begin with `stream.rt`. [`DpSub`] is the simplest enumerator: all unions ascending, and all splits of each. [`Parts`] are the connected
+//! sets of each size in the order of their lists of members, on which the enumerators by sizes stand.
 #![tactic(auto)]
 
 mod collect;

@@ -10,7 +10,9 @@ use std::sync::ledger::Ledger;
 /// The place and the entry that a scan found, and how many entries it looked at.
 #[derive(Clone, Copy, PartialEq, Eq, Debug)]
 pub struct Free {
+    /// The place of the entry, and the entry.
     pub found: Option<(usize, RelSet)>,
+    /// How many entries were looked at for it.
     pub probes: u64,
 }
 
