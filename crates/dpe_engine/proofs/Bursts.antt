@@ -1,5 +1,5 @@
 -- A worker on its way.
-use Rattle.std.proofs.Common.{◌≡◌, ◌≢◌, ℕ, ◌+◌, ◌-◌, ◌<◌, ◌≤◌, ◌==◌, Bool, true, false, List, [], ◌∷◌, ◌++◌, All, Contains, length, get_or, drop, sym, refl, ap, ◌∙◌, subst, arith, ◌⊎◌, inl, inr, ⊎_elim, append_assoc, append-nil, length-append}
+use Rattle.std.proofs.Common.{◌≡◌, ◌≢◌, ℕ, ◌+◌, ◌-◌, ◌<◌, ◌≤◌, ◌==◌, Bool, true, false, if◌then◌else◌, List, [], ◌∷◌, ◌++◌, All, Contains, length, get_or, drop, sym, refl, ap, ◌∙◌, subst, arith, ◌⊎◌, inl, inr, ⊎_elim, append_assoc, append-nil, length-append}
 use mathlib.Core.Logic.{dite}
 use native.Mathlib.Decide.{ℕ_discrete}
 use Rattle.std.proofs.lemmas.Bool.Decides.{nat_tests}
@@ -10,11 +10,22 @@ use Rattle.dpe_base.specs.declared.pair.Pair.{Pair}
 use Rattle.dpe_base.specs.Queries.{JoinQuery}
 use Rattle.memo_table.specs.declared.view.View.{View}
 use Rattle.memo_table.specs.Seats.{MemoTable, SeatView, IsSeatOf, Settled}
-use Rattle.memo_table.specs.Views.{with_ticket}
+use Rattle.memo_table.specs.Views.{times, with_ticket}
 use Rattle.memo_table.proofs.Counting.{times-append}
-use Rattle.dpe_engine.specs.Working.{IsBounded, IsDone, IsReady, HasDrawn, HasWorked, HasWorkedPair, IsWorking}
+use Rattle.dpe_engine.specs.Working.{past, IsBounded, IsDone, IsReady, HasDrawn, HasWorked, HasWorkedPair}
 use Rattle.dpe_engine.proofs.Tickets.{past-append, times_other, past_one, past_none}
 use Rattle.dpe_engine.proofs.PairSteps.{stays_settled}
+
+-- A worker on its way: what it has drawn, the places that it has still to work, and whether a number was past the end.
+-- Until then its next number is far enough
+pub record IsWorking (kind base : ℕ) (group : List Pair) (before now : SeatView) (waiting : List ℕ) (over : Bool) : Type 0 where
+  pub tickets : List ℕ
+  pub drawn : HasDrawn before now tickets
+  pub passed : past (base + length group) tickets ≡ if over then 1 else 0
+  pub reached : over ≡ false → (length tickets ≡ 0) ⊎ ((t : ℕ) × Contains now.view.tickets t × (t < base + length group) × (base + length tickets ≤ t + 1))
+  pub inside : (k : ℕ) → Contains waiting k → k < length group
+  pub done : (k : ℕ) (d : Pair) → k < length group → 0 < times (base + k) tickets
+      → IsDone kind before.view.query before.view.pairs now.view.bounds (get_or group k d) ⊎ Contains waiting k
 
 pub more_done : (kind : ℕ) (q : JoinQuery) (pairs : List Pair) (bs cs : List (ℕ × ℕ)) (p : Pair) → ((b : ℕ × ℕ) → Contains bs b → Contains cs b) → IsDone kind q pairs bs p → IsDone kind q pairs cs p
 more_done kind q pairs bs cs p grow d w l = ⊎_elim (λ e. inl e) (λ (h : IsBounded bs _ w). inr (record { word = h.word; bound = grow (_, h.word) h.bound; most = h.most })) (d w l)

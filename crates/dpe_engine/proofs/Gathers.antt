@@ -1,5 +1,5 @@
 -- The seats of the crew are joined, the last first.
-use Rattle.std.proofs.Common.{◌≡◌, ℕ, ◌<◌, ◌⊎◌, List, [], ◌∷◌, ◌++◌, All, Contains, length, refl, ap, ◌∙◌, sym, subst, arith, length-append, sum_by, inl, inr, ⊎_elim}
+use Rattle.std.proofs.Common.{◌≡◌, ℕ, ◌+◌, ◌<◌, ◌⊎◌, List, [], ◌∷◌, ◌++◌, All, Contains, length, refl, ap, ◌∙◌, sym, subst, arith, length-append, sum_by, inl, inr, ⊎_elim}
 use Rattle.std.proofs.lemmas.List.Sums.{sum_by_push}
 use Rattle.std.proofs.Math.Seq.{take-append_seam}
 use Rattle.std.proofs.lemmas.List.Elements.{All-contains, All-take, Contains-push, Contains-push_cases, Contains-append_left, Contains-append_right}
@@ -8,8 +8,20 @@ use Rattle.memo_table.specs.Seats.{MemoTable, SeatView, IsSeatOf}
 use Rattle.memo_table.specs.Views.{times, joined_view}
 use Rattle.memo_table.proofs.Counting.{times-append}
 use Rattle.dpe_engine.specs.Working.{past}
-use Rattle.dpe_engine.specs.Rounds.{IsGathered, IsGathering, HasAmong}
+use Rattle.dpe_engine.specs.Rounds.{weights, allowances, all_drawn, all_past, all_times, IsGathered, HasAmong}
 use Rattle.dpe_engine.proofs.Tickets.{past-append}
+
+-- part of the crew is taken in, and these are left
+pub record IsGathering (memo : MemoTable) (before : SeatView) (crew : List SeatView) (now : SeatView) (rest : List SeatView) : Type 0 where
+  pub seat : IsSeatOf memo now
+  pub left : All (IsSeatOf memo) rest
+  pub bounds : (b : ℕ × ℕ) → Contains before.view.bounds b → Contains now.view.bounds b
+  pub weight : weights now rest ≡ weights before crew
+  pub allowance : allowances now rest ≡ allowances before crew
+  pub counted : all_drawn now rest ≡ all_drawn before crew
+  pub taken : (b : ℕ × ℕ) → HasAmong crew b → Contains now.view.bounds b ⊎ HasAmong rest b
+  pub drawn : (x : ℕ) → all_times x now rest ≡ all_times x before crew
+  pub passed : (end : ℕ) → all_past end now rest ≡ all_past end before crew
 
 among_push : (b : ℕ × ℕ) (xs : List SeatView) (y : SeatView) → HasAmong (xs ++ y ∷ []) b → HasAmong xs b ⊎ Contains y.view.bounds b
 among_push b xs y h = ⊎_elim

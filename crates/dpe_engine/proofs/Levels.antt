@@ -1,25 +1,28 @@
 -- Rounds over the groups of a whole list, one after the other.
-use Rattle.std.proofs.Common.{◌≡◌, ◌==◌, ℕ, ◌<◌, List, [], ◌∷◌, Contains, filter, refl, sym, ap, ◌∙◌, subst, arith}
+use Rattle.std.proofs.Common.{◌≡◌, ◌==◌, ℕ, ◌<◌, ◌≤◌, List, [], ◌∷◌, Contains, filter, refl, sym, ap, ◌∙◌, subst, arith}
+use Rattle.dpe_base.specs.declared.TheConstants.{WORKERS_MAX}
 use Rattle.dpe_base.specs.declared.pair.Pair.{Pair}
 use Rattle.dpe_base.specs.Queries.{JoinQuery, IsQuery}
 use Rattle.dpe_base.specs.Sets.{union, size}
-use Rattle.card_scaled.specs.Cards.{RowTable, IsCardTable}
+use Rattle.card_scaled.specs.Cards.{IsCardTable}
 use Rattle.join_graph.specs.Graphs.{JoinGraph, Pairs, graph_of}
 use Rattle.pair_stream.specs.Orders.{Complete, Ordered}
 use Rattle.join_tree.proofs.TreeLaws.{connected_size_some}
-use Rattle.memo_table.specs.Seats.{MemoTable, SeatView}
+use Rattle.memo_table.specs.Seats.{SeatView}
 use Rattle.reorder_buffer.specs.Groups.{union_size, group_of}
+use Rattle.dpe_engine.specs.declared.shared.Shared.{Shared}
 use Rattle.dpe_engine.specs.Between.{below, IsBetween, IsShared}
 use Rattle.dpe_engine.proofs.Places.{in_below}
 use Rattle.dpe_engine.proofs.Members.{union_size_is}
 use Rattle.dpe_engine.proofs.Advances.{workable}
 use Rattle.dpe_engine.proofs.Ends.{shared_of}
 
--- what two workers share, of a stream over the query's graph
-pub stream_shared : (memo : MemoTable) (cards : RowTable) (g : JoinGraph) (q : JoinQuery) (list : List Pair) → memo.query ≡ q → memo.pairs ≡ list → IsQuery q → g ≡ graph_of q → Complete g list → Ordered list → IsCardTable q cards → IsShared memo cards 2
-stream_shared memo cards g q list e same ok is all order rows =
+-- what workers share, of a stream over the query's graph
+pub stream_shared : {M : Type 0} (shared : Shared M) (g : JoinGraph) (q : JoinQuery) (list : List Pair) → shared.memo.query ≡ q → shared.memo.pairs ≡ list → IsQuery q → g ≡ graph_of q → Complete g list → Ordered list → IsCardTable q shared.cards
+    → 1 ≤ shared.workers → shared.workers ≤ WORKERS_MAX → IsShared shared
+stream_shared shared g q list e same ok is all order rows some few =
     let G : JoinGraph → Type 0 = λ h. (p : Pair) → Contains list p → Pairs h p in
-    shared_of memo cards 2 q list e same ok (subst G is (λ p c. (all.members p).0 c)) order rows (omega arith) (omega arith)
+    shared_of shared q list e same ok (subst G is (λ p c. (all.members p).0 c)) order rows some few
 
 group_is : (n : ℕ) (pairs : List Pair) → filter (λ p. size (union p.a p.b) == n) pairs ≡ group_of n pairs
 unfolding union_size
@@ -33,14 +36,14 @@ no_member [] none = refl
 no_member (x ∷ xs) none = absurd (none x (0, omega arith, refl))
 
 -- no union has fewer than two relations
-pub first_level : (kind : ℕ) (memo : MemoTable) (cards : RowTable) (workers : ℕ) (s : SeatView) → IsShared memo cards workers → IsBetween kind memo workers [] 0 s → IsBetween kind memo workers (below 2 memo.pairs) 0 s
-first_level kind memo cards workers s shared b =
-    let F : List Pair → Type 0 = λ l. IsBetween kind memo workers l 0 s in
-    subst F (sym (no_member (below 2 memo.pairs) (λ p c. none p (in_below 2 memo.pairs p c)))) b
+pub first_level : {M : Type 0} (kind : ℕ) (shared : Shared M) (s : SeatView) → IsShared shared → IsBetween kind shared [] 0 s → IsBetween kind shared (below 2 shared.memo.pairs) 0 s
+first_level kind shared s plan b =
+    let F : List Pair → Type 0 = λ l. IsBetween kind shared l 0 s in
+    subst F (sym (no_member (below 2 shared.memo.pairs) (λ p c. none p (in_below 2 shared.memo.pairs p c)))) b
   where
-    none : (p : Pair) → Contains memo.pairs p × (union_size p < 2) → ⊥
+    none : (p : Pair) → Contains shared.memo.pairs p × (union_size p < 2) → ⊥
     none p m =
-        let small = (workable kind memo cards workers shared).smaller p m.0 in
-        let some = connected_size_some (graph_of memo.query) p.a (shared.planned.builds.within p m.0).first in
+        let small = (workable kind shared plan).smaller p m.0 in
+        let some = connected_size_some (graph_of shared.memo.query) p.a (plan.planned.within p m.0).first in
         let u = union_size_is p in
         omega (arith, small.0, m.1)

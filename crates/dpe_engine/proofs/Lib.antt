@@ -1,4 +1,5 @@
 pub mod Tickets
+pub mod SoundPairs
 pub mod PairSteps
 pub mod Bursts
 pub mod Splits

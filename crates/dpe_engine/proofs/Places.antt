@@ -86,12 +86,12 @@ few_pairs q pairs ok builds once =
     omega arith
 
 -- and so fewer than the tickets of a memo by far
-pub few_in_all : (q : JoinQuery) (pairs : List Pair) → IsQuery q → Builds (graph_of q) pairs → Once pairs → length pairs ≤ 2 ^ 32
+pub few_in_all : (q : JoinQuery) (pairs : List Pair) → IsQuery q → Builds (graph_of q) pairs → Once pairs → length pairs ≤ 4 ^ N_MAX
 few_in_all q pairs ok builds once =
     let few = few_pairs q pairs ok builds once in
     let same : 4 ^ relations q ≡ 2 ^ relations q * 2 ^ relations q = mul-pow 2 2 (relations q) in
-    let low : 2 ^ relations q ≤ 2 ^ 16 = pow_mono {i = relations q} {j = N_MAX} ok.few in
-    let most : 2 ^ relations q * 2 ^ relations q ≤ 2 ^ 16 * 2 ^ 16 = mul-le-mul low low in
+    let low : 2 ^ relations q ≤ 2 ^ N_MAX = pow_mono {i = relations q} {j = N_MAX} ok.few in
+    let most : 2 ^ relations q * 2 ^ relations q ≤ 2 ^ N_MAX * 2 ^ N_MAX = mul-le-mul low low in
     omega arith
 
 -- ---- the pairs of smaller unions

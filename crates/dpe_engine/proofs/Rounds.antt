@@ -1,5 +1,5 @@
 -- A whole round.
-use Rattle.std.proofs.Common.{◌≡◌, ℕ, ◌+◌, ◌*◌, ◌<◌, ◌≤◌, List, ◌++◌, Contains, length, get_or, sym, ap, ◌∙◌, subst, arith, sum_by}
+use Rattle.std.proofs.Common.{◌≡◌, ℕ, ◌+◌, ◌*◌, ◌<◌, ◌≤◌, List, ◌++◌, Contains, length, get_or, refl, sym, ap, ◌∙◌, subst, arith, sum_by}
 use Rattle.std.proofs.lemmas.List.Elements.{All-get_or, Contains-get_or}
 use Rattle.dpe_base.specs.declared.pair.Pair.{Pair}
 use Rattle.dpe_base.specs.Queries.{JoinQuery}
@@ -8,7 +8,7 @@ use Rattle.memo_table.specs.declared.view.View.{View}
 use Rattle.memo_table.specs.Seats.{MemoTable, SeatView, BoundsAreMade}
 use Rattle.memo_table.specs.Views.{times, EachOnceBelow, with_floor}
 use Rattle.dpe_engine.specs.Working.{past, IsDone}
-use Rattle.dpe_engine.specs.Rounds.{IsWorkerSeat, IsSplit, IsGathered, HaveWorked, MayWorkRound, HasWorkedRound}
+use Rattle.dpe_engine.specs.Rounds.{IsWorkerSeat, IsSplit, IsGathered, HaveWorked, MayWorkRound, HasOpenedRound, HasWorkedRound}
 use Rattle.dpe_engine.proofs.Tickets.{past_is, once_in, once_out, sum_fixed, sum_both, some_positive}
 use Rattle.dpe_engine.proofs.Bursts.{more_done}
 
@@ -100,15 +100,17 @@ module _ (kind : ℕ) (memo : MemoTable) (base workers : ℕ) (group : List Pair
         (λ u has. g.taken u (record { seat = get_or crew' j split; member = Contains-get_or crew' j split found.1; bound = has }))
         (same_done kind (get_or crew j split).view.query memo.query (get_or crew j split).view.pairs memo.pairs (get_or crew' j split).view.bounds (get_or group k d) p.1.seat.query p.1.seat.pairs done)
 
-    pub round_done : (last : SeatView) (n : ℕ) → first.view.weight ≡ WEIGHT → (gathered.view.weight ≡ WEIGHT → EachOnceBelow n gathered.view.tickets) → last.table ≡ gathered.table → last.view ≡ with_floor gathered.view n
-        → (before : SeatView) → EachOnceBelow base before.view.tickets → BoundsAreMade kind last.view → first.view.allowance ≡ before.view.allowance → ((b : ℕ × ℕ) → Contains before.view.bounds b → Contains first.view.bounds b) → HasWorkedRound kind memo base workers group before last
-    round_done last n heavy tells table view before began made same grow =
+    round_done : (last : SeatView) (n : ℕ) → first.view.weight ≡ WEIGHT → (gathered.view.weight ≡ WEIGHT → EachOnceBelow n gathered.view.tickets) → last.table ≡ gathered.table → last.view ≡ with_floor gathered.view n
+        → (before : SeatView) → EachOnceBelow base before.view.tickets → before.view.floor ≤ base → BoundsAreMade kind last.view → first.view.allowance ≡ before.view.allowance → ((b : ℕ × ℕ) → Contains before.view.bounds b → Contains first.view.bounds b) → HasWorkedRound kind memo base workers group before last
+    round_done last n heavy tells table view before began reached made same grow =
         let b = tells (whole ∙ heavy) in
         let e = ended n b in
         record {
           seat = record { table = table ∙ g.seat.table; query = ap (λ (v : View). v.query) view ∙ g.seat.query; pairs = ap (λ (v : View). v.pairs) view ∙ g.seat.pairs };
           weight = ap (λ (v : View). v.weight) view ∙ (whole ∙ heavy);
           began = began;
+          reached = reached;
+          floor = ap (λ (v : View). v.floor) view ∙ e;
           made = made;
           tickets = let F : View → Type 0 = λ v. EachOnceBelow (base + length group + workers) v.tickets in subst F (sym view) (let G : ℕ → Type 0 = λ m. EachOnceBelow m gathered.view.tickets in subst G e b);
           allowance =
@@ -124,3 +126,10 @@ module _ (kind : ℕ) (memo : MemoTable) (base workers : ℕ) (group : List Pair
               let G : List (ℕ × ℕ) → Type 0 = λ l. Contains l x in
               subst F (sym view) (g.bounds x (subst G (sym s.bounds) (grow x h)));
         }
+
+-- what was opened, worked and gathered is a round
+pub closes : (kind : ℕ) (memo : MemoTable) (base workers : ℕ) (group : List Pair) (before split gathered last : SeatView) (opened crew' : List SeatView) (n : ℕ) → HasOpenedRound kind memo base workers group before split opened → HaveWorked kind base group opened crew'
+    → IsGathered memo split crew' gathered → (gathered.view.weight ≡ WEIGHT → EachOnceBelow n gathered.view.tickets) → last.table ≡ gathered.table → last.view ≡ with_floor gathered.view n → BoundsAreMade kind last.view → HasWorkedRound kind memo base workers group before last
+closes kind memo base workers group before split gathered last opened crew' n o w g tells table view made =
+    let known : EachOnceBelow base o.first.view.tickets = rw o.looked o.known in
+    round_done kind memo base workers group o.first split opened crew' o.split w gathered o.some known g last n (rw o.looked o.weight) tells table view before o.known o.reached made (rw o.looked refl) (λ b h. rw o.looked h)

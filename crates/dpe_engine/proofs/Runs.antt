@@ -1,17 +1,21 @@
 -- From buffer to buffer.
-use Rattle.std.proofs.Common.{◌≡◌, ℕ, ◌+◌, ◌^◌, ◌<◌, ◌≤◌, ◌*◌, ◌⊎◌, inl, inr, ⊎_elim, min, Bool, List, [], ◌∷◌, ◌++◌, length, take, refl, sym, ap, ◌∙◌, subst, arith, length-append, append_assoc, append-nil, sum_by}
+use Rattle.std.proofs.Common.{◌≡◌, ◌≢◌, ℕ, ◌+◌, ◌^◌, ◌<◌, ◌≤◌, ◌*◌, ◌⊎◌, inl, inr, ⊎_elim, min, Bool, IsTrue, List, [], ◌∷◌, ◌++◌, length, take, refl, sym, ap, ◌∙◌, subst, arith, length-append, append_assoc, append-nil, sum_by}
 use Rattle.std.proofs.lemmas.Bool.{cases_lt}
+use Rattle.std.proofs.lemmas.Bool.Decides.{nat_tests}
 use Rattle.std.proofs.lemmas.Nat.{mul-pow}
 use Rattle.std.proofs.lemmas.List.{take_all, length-take-le}
 use Rattle.std.proofs.lemmas.List.Sums.{sum_by-cons}
 use Rattle.dpe_base.specs.declared.pair.Pair.{Pair}
 use Rattle.dpe_base.specs.Queries.{relations}
-use Rattle.card_scaled.specs.Cards.{RowTable}
-use Rattle.memo_table.specs.Seats.{MemoTable, SeatView}
 use Rattle.reorder_buffer.specs.Buffers.{BufferedPairs}
 use Rattle.reorder_buffer.specs.Groups.{groups, groups_below, runs, rounds}
 use Rattle.reorder_buffer.proofs.RunLaws.{runs-none, taken_is_run}
-use Rattle.dpe_engine.specs.Between.{IsBetween, IsShared, HasWorkedBuffer, IsFilled, IsRunning, HasEnded, IsPrepared}
+use Rattle.dpe_engine.specs.declared.shared.Shared.{Shared}
+use Rattle.dpe_engine.specs.declared.producer.Producer.{Producer}
+use Rattle.dpe_engine.specs.declared.consumer.Consumer.{Consumer}
+use Rattle.dpe_engine.specs.declared.engine.Solved.{Solved}
+use Rattle.dpe_engine.specs.Engines.{EnginePlan, IsSolved}
+use Rattle.dpe_engine.specs.Between.{plan_of, IsBetween, IsShared, HasWorkedBuffer, IsFilled, IsRunning, HasEnded, IsPrepared}
 use Rattle.dpe_engine.proofs.Places.{few_pairs}
 use Rattle.dpe_engine.proofs.Members.{take_more}
 
@@ -36,6 +40,12 @@ short_runs b c (x ∷ xs) h k = alone b h ∙ sym (alone c k)
         taken_is_run r (x ∷ xs) (x ∷ xs) [] (omega arith) (sym (append-nil (x ∷ xs))) (omega arith) (λ e. refl) (λ e. let n = ap (λ (l : List Pair). length l) e in absurd (omega arith))
         ∙ ap (λ (l : List (List Pair)). (x ∷ xs) ∷ l) (runs-none r (omega arith))
 
+min_one : (k : ℕ) → 1 ≤ k → min k 1 ≡ 1
+min_one k some = grind (arith, nat_tests)
+
+min_none : (k : ℕ) → k ≡ 0 → min k 1 ≡ 0
+min_none k none = grind (arith, nat_tests)
+
 -- a room for more than there are pairs of sets, unless it is what was asked for
 pub room_enough : (n sets buffer room : ℕ) → sets ≡ 2 ^ n → room ≡ min (sets * sets + 1) buffer → (room ≡ buffer) ⊎ (4 ^ n < room)
 room_enough n sets buffer room e is =
@@ -47,114 +57,166 @@ room_enough n sets buffer room e is =
     ]
 
 -- and it gives the runs that were asked for
-pub same_runs : (memo : MemoTable) (cards : RowTable) (workers room buffer n : ℕ) → IsShared memo cards workers → n ≡ relations memo.query → room ≤ buffer → (room ≡ buffer) ⊎ (4 ^ n < room) → runs buffer memo.pairs ≡ runs room memo.pairs
-same_runs memo cards workers room buffer n shared is fits enough =
-    let few = few_pairs memo.query memo.pairs shared.planned.query shared.planned.builds shared.ordered.once in
-    let same = ap (λ (k : ℕ). 4 ^ k) is in
+pub same_runs : {M : Type 0} (shared : Shared M) (room buffer n : ℕ) → IsShared shared → n ≡ relations shared.memo.query → room ≤ buffer → (room ≡ buffer) ⊎ (4 ^ n < room) → runs buffer shared.memo.pairs ≡ runs room shared.memo.pairs
+same_runs shared room buffer n plan is fits enough =
+    let few = few_pairs shared.memo.query shared.memo.pairs plan.planned.query plan.builds plan.ordered.once in
+    let same = ap (λ k. 4 ^ k) is in
     ⊎_elim
-    (λ (e : room ≡ buffer). ap (λ (b : ℕ). runs b memo.pairs) (sym e))
-    (λ (more : 4 ^ n < room). short_runs buffer room memo.pairs (omega arith) (omega arith))
+    (λ (e : room ≡ buffer). ap (λ (b : ℕ). runs b shared.memo.pairs) (sym e))
+    (λ (more : 4 ^ n < room). short_runs buffer room shared.memo.pairs (omega arith) (omega arith))
     enough
 
--- the first buffer is filled
-pub begins : (kind : ℕ) (memo : MemoTable) (cards : RowTable) (workers buffer : ℕ) (first first' second : BufferedPairs) (crew : List SeatView) (capacity : ℕ) (s : SeatView) (all left : List Pair) (ended : Bool)
-    → IsPrepared kind memo cards workers buffer first second crew capacity s → all ≡ memo.pairs → IsFilled all left ended first first' → IsRunning kind memo cards workers first.room 0 0 0 left ended first' second crew capacity s
-begins kind memo cards workers buffer first first' second crew capacity s all left ended p is f =
-    let whole : memo.pairs ≡ first'.pairs ++ left = sym is ∙ f.taken in
+-- what a run leaves, told by another room that gives the same runs
+solved_for : (kind room : ℕ) (plan : EnginePlan) (solved : Solved) → runs plan.buffer plan.pairs ≡ runs room plan.pairs → IsSolved kind record { query = plan.query; pairs = plan.pairs; buffer = room; workers = plan.workers } solved → IsSolved kind plan solved
+solved_for kind room plan solved same s =
     record {
-      shared = p.shared;
-      whole = whole;
-      inside = omega arith;
-      between = p.between;
-      buffers_left = let e = ap (λ (l : List Pair). length (runs first.room l)) whole in omega arith;
-      rounds_left = let e = ap (λ (l : List Pair). rounds first.room l) whole in omega arith;
-      few = omega arith;
-      rooms = (f.kept, p.rooms.1, p.rooms.0);
-      fits = let a = f.fits in let b = f.kept in omega arith;
-      last = λ h. f.short h;
-      free = p.free;
+      size = s.size;
+      words = s.words;
+      pairs = s.pairs;
+      drawn = s.drawn;
+      buffers = s.buffers ∙ sym (ap (λ (l : List (List Pair)). length l) same);
+      all_rounds = s.all_rounds ∙ sym (ap (λ (l : List (List Pair)). sum_by (λ run. length (groups run)) l) same);
     }
 
-module _ (kind : ℕ) (memo : MemoTable) (cards : RowTable) (workers room pairs buffers rounds_done : ℕ) (left : List Pair) (ended : Bool) (full next : BufferedPairs) (crew : List SeatView) (capacity : ℕ) (s : SeatView)
-    (r : IsRunning kind memo cards workers room pairs buffers rounds_done left ended full next crew capacity s) where
-  more : take (pairs + length full.pairs) memo.pairs ≡ take pairs memo.pairs ++ full.pairs
-  more = take_more pairs memo.pairs full.pairs left r.inside r.whole
+pub run_solved : {M : Type 0} (kind buffer : ℕ) (shared : Shared M) (next : BufferedPairs) (consumer last : Consumer M) (solved : Solved) → IsPrepared kind buffer shared next consumer → last.full.room ≡ next.room → IsSolved kind (plan_of shared last) solved
+    → IsSolved kind record { query = shared.memo.query; pairs = shared.memo.pairs; buffer = buffer; workers = shared.workers } solved
+run_solved kind buffer shared next consumer last solved p room s =
+    solved_for kind last.full.room record { query = shared.memo.query; pairs = shared.memo.pairs; buffer = buffer; workers = shared.workers } solved (p.same_runs ∙ ap (λ (b : ℕ). runs b shared.memo.pairs) (sym room)) s
 
-  pub fits_list : pairs + length full.pairs + length left ≡ length memo.pairs
+-- the first buffer is filled
+pub begins : {P M : Type 0} (kind buffer : ℕ) (left : P → List Pair) (ended : P → Bool) (shared : Shared M) (before after : Producer P) (consumer : Consumer M)
+    → IsPrepared kind buffer shared before.next consumer → left before.stream ≡ shared.memo.pairs → IsFilled left ended before after
+    → IsRunning kind left ended shared (record after { next = consumer.full }) (record consumer { full = after.next })
+begins kind buffer left ended shared before after consumer p is f =
+    let list : List Pair = shared.memo.pairs in
+    let whole : list ≡ after.next.pairs ++ left after.stream = sym is ∙ f.taken in
+    let none : take consumer.pairs list ≡ [] = ap (λ (k : ℕ). take k list) p.none.0 in
+    let F : List Pair → Type 0 = λ l. list ≡ l ++ (after.next.pairs ++ left after.stream) in
+    let at : F (take consumer.pairs list) = subst F (sym none) whole in
+    let G : List Pair → Type 0 = λ l. IsBetween kind shared l consumer.rounds consumer.seat in
+    let H : ℕ → Type 0 = λ k. IsBetween kind shared [] k consumer.seat in
+    record {
+      may = record {
+        plan = p.plan;
+        next = record { rest = left after.stream; is = at };
+        between = subst G (sym none) (subst H (sym p.none.2) p.between);
+        free = record { empty = p.free.empty; room = p.free.room };
+        few = let a = p.none.1 in omega arith;
+      };
+      whole = at;
+      inside = let a = p.none.0 in omega arith;
+      buffers_left = let a = p.none.1 in let e = ap (λ (l : List Pair). length (runs after.next.room l)) whole in omega arith;
+      rounds_left = let a = p.none.2 in let e = ap (λ (l : List Pair). rounds after.next.room l) whole in omega arith;
+      same_room = p.same_room ∙ sym f.room;
+      some_room = let a = f.room in let b = p.some_room in omega arith;
+      fits = f.fits;
+      last = λ h. f.short (let a = f.room in omega arith);
+    }
+
+module _ {P M : Type 0} (kind : ℕ) (left : P → List Pair) (ended : P → Bool) (shared : Shared M) (producer : Producer P) (consumer : Consumer M) (r : IsRunning kind left ended shared producer consumer) where
+  abbrev list : List Pair
+  list = shared.memo.pairs
+
+  abbrev full : List Pair
+  full = consumer.full.pairs
+
+  abbrev room : ℕ
+  room = consumer.full.room
+
+  more : take (consumer.pairs + length full) list ≡ take consumer.pairs list ++ full
+  more = take_more consumer.pairs list full (left producer.stream) r.inside r.whole
+
+  pub fits_list : consumer.pairs + length full + length (left producer.stream) ≡ length list
   fits_list =
       let a = ap (λ (l : List Pair). length l) r.whole in
-      let b = length-append (take pairs memo.pairs) (full.pairs ++ left) in
-      let c = length-append full.pairs left in
-      let d = length-take-le pairs memo.pairs r.inside in omega arith
+      let b = length-append (take consumer.pairs list) (full ++ left producer.stream) in
+      let c = length-append full (left producer.stream) in
+      let d = length-take-le consumer.pairs list r.inside in omega arith
 
-  module _ (rounds_done' : ℕ) (full' : BufferedPairs) (crew' : List SeatView) (capacity' : ℕ) (s' : SeatView) (w : HasWorkedBuffer kind memo workers pairs rounds_done rounds_done' full full' crew' capacity' s') where
-    worked : IsBetween kind memo workers (take (pairs + length full.pairs) memo.pairs) rounds_done' s'
-    worked = let F : List Pair → Type 0 = λ l. IsBetween kind memo workers l rounds_done' s' in subst F (sym more) w.between
+  module _ (worked : Consumer M) (w : HasWorkedBuffer kind shared consumer worked) where
+    processed : take worked.pairs list ≡ take consumer.pairs list ++ full
+    processed = ap (λ (k : ℕ). take k list) w.pairs ∙ more
 
-    pub goes_on : (left' : List Pair) (ended' : Bool) (next' : BufferedPairs) → length full.pairs ≡ room → IsFilled left left' ended' next next'
-        → IsRunning kind memo cards workers room (pairs + length full.pairs) (buffers + 1) rounds_done' left' ended' next' full' crew' capacity' s'
-    goes_on left' ended' next' whole f =
-        let some = r.rooms.2 in
-        let first = first_run room full.pairs left some (omega arith) r.fits (λ h. absurd (omega arith)) in
+    between : IsBetween kind shared (take worked.pairs list) worked.rounds worked.seat
+    between = let F : List Pair → Type 0 = λ l. IsBetween kind shared l worked.rounds worked.seat in subst F (sym processed) w.between
+
+    pub goes_on : (filled : Producer P) → length full ≡ room → IsFilled left ended producer filled
+        → IsRunning kind left ended shared (record filled { next = worked.full }) (record worked { full = filled.next })
+    goes_on filled whole f =
+        let some = r.some_room in
+        let same : filled.next.room ≡ room = f.room ∙ r.same_room in
+        let first = first_run room full (left producer.stream) some (omega arith) r.fits (λ h. absurd (omega arith)) in
+        let one = min_one (length full) (omega arith) in
+        let at : list ≡ take worked.pairs list ++ (filled.next.pairs ++ left filled.stream) =
+        r.whole ∙ (ap (λ (l : List Pair). take consumer.pairs list ++ (full ++ l)) f.taken
+        ∙ (sym (append_assoc (take consumer.pairs list) full (filled.next.pairs ++ left filled.stream)) ∙ ap (λ (l : List Pair). l ++ (filled.next.pairs ++ left filled.stream)) (sym processed))) in
         record {
-          shared = r.shared;
-          whole =
-              r.whole ∙ (ap (λ (l : List Pair). take pairs memo.pairs ++ (full.pairs ++ l)) f.taken
-              ∙ (sym (append_assoc (take pairs memo.pairs) full.pairs (next'.pairs ++ left')) ∙ ap (λ (l : List Pair). l ++ (next'.pairs ++ left')) (sym more)));
-          inside = let a = fits_list in omega arith;
-          between = worked;
+          may = record {
+            plan = r.may.plan;
+            next = record { rest = left filled.stream; is = at };
+            between = between;
+            free = record { empty = w.free.empty; room = w.free.room };
+            few = let a = r.may.few in let b = w.buffers in let n = ap (λ (l : List Pair). length l) processed in let m = length-append (take consumer.pairs list) full in omega arith;
+          };
+          whole = at;
+          inside = let a = fits_list in let b = w.pairs in omega arith;
           buffers_left =
               let a = r.buffers_left in
               let b = ap (λ (l : List (List Pair)). length l) first in
-              let c = ap (λ (l : List Pair). length (runs room l)) f.taken in omega arith;
+              let c = ap (λ (l : List Pair). length (runs room l)) f.taken in
+              let d = w.buffers in
+              let e = ap (λ (b : ℕ). length (runs b (filled.next.pairs ++ left filled.stream))) same in
+              let g = ap (λ (b : ℕ). length (runs b list)) same in omega arith;
           rounds_left =
               let a = r.rounds_left in
-              let b = first_rounds room full.pairs left first in
+              let b = first_rounds room full (left producer.stream) first in
               let c = ap (λ (l : List Pair). rounds room l) f.taken in
-              let d = w.counted in omega arith;
-          few = let a = r.few in omega arith;
-          rooms = (f.kept ∙ r.rooms.1, w.kept ∙ r.rooms.0, some);
-          fits = let a = f.fits in let b = f.kept ∙ r.rooms.1 in omega arith;
-          last = λ h. f.short (let b = r.rooms.1 in omega arith);
-          free = w.free;
+              let d = w.counted in
+              let e = ap (λ (b : ℕ). rounds b (filled.next.pairs ++ left filled.stream)) same in
+              let g = ap (λ (b : ℕ). rounds b list) same in omega arith;
+          same_room = w.room ∙ sym same;
+          some_room = omega arith;
+          fits = f.fits;
+          last = λ h. f.short (let b = f.room in omega arith);
         }
 
-    pub fewer : (left' : List Pair) (ended' : Bool) (next' : BufferedPairs) → length full.pairs ≡ room → IsFilled left left' ended' next next' → length next'.pairs + length left' < length full.pairs + length left
-    fewer left' ended' next' whole f =
+    pub fewer : (filled : Producer P) → length full ≡ room → IsFilled left ended producer filled → length filled.next.pairs + length (left filled.stream) < length full + length (left producer.stream)
+    fewer filled whole f =
         let a = ap (λ (l : List Pair). length l) f.taken in
-        let b = length-append next'.pairs left' in
-        let c = r.rooms.2 in omega arith
+        let b = length-append filled.next.pairs (left filled.stream) in
+        let c = r.some_room in omega arith
 
     -- the last buffer, which is not full
-    pub ends : length full.pairs < room → (buffers' : ℕ) → (length full.pairs ≡ 0 → buffers' ≡ buffers) → (1 ≤ length full.pairs → buffers' ≡ buffers + 1)
-        → HasEnded kind memo cards workers room (pairs + length full.pairs) buffers' rounds_done' left ended s'
-    ends short buffers' none some =
+    pub ends : length full < room → HasEnded kind shared worked
+    ends short =
         let l = r.last short in
-        let nothing : length left ≡ 0 = ap (λ (t : List Pair). length t) l.0 in
-        let all : pairs + length full.pairs ≡ length memo.pairs = let a = fits_list in omega arith in
-        let whole : full.pairs ++ left ≡ full.pairs ++ [] = ap (λ (t : List Pair). full.pairs ++ t) l.0 in
-        let alone : 1 ≤ length full.pairs → runs room (full.pairs ++ []) ≡ full.pairs ∷ runs room [] = λ h. first_run room full.pairs [] r.rooms.2 h r.fits (λ e. refl) in
-        let over : runs room [] ≡ [] = runs-none room r.rooms.2 in
+        let nothing : length (left producer.stream) ≡ 0 = ap (λ (t : List Pair). length t) l.0 in
+        let all : worked.pairs ≡ length list = let a = fits_list in let b = w.pairs in omega arith in
+        let whole : full ++ left producer.stream ≡ full ++ [] = ap (λ (t : List Pair). full ++ t) l.0 in
+        let alone : 1 ≤ length full → runs room (full ++ []) ≡ full ∷ runs room [] = λ h. first_run room full [] r.some_room h r.fits (λ e. refl) in
+        let over : runs room [] ≡ [] = runs-none room r.some_room in
         let no_run : length (runs room []) ≡ 0 = ap (λ (t : List (List Pair)). length t) over in
         let no_round : rounds room [] ≡ 0 = ap (λ (t : List (List Pair)). sum_by (λ run. length (groups run)) t) over in
+        let same_buffers : length (runs worked.full.room list) ≡ length (runs room list) = ap (λ (b : ℕ). length (runs b list)) w.room in
+        let same_rounds : rounds worked.full.room list ≡ rounds room list = ap (λ (b : ℕ). rounds b list) w.room in
+        let counted_buffers = w.buffers in
+        let counted_rounds = w.counted in
         record {
-          shared = r.shared;
-          between = let F : List Pair → Type 0 = λ t. IsBetween kind memo workers t rounds_done' s' in subst F (ap (λ (k : ℕ). take k memo.pairs) all ∙ take_all (length memo.pairs) memo.pairs (omega arith)) worked;
-          all_pairs = all;
-          all_buffers =
+          plan = r.may.plan;
+          between = let F : List Pair → Type 0 = λ t. IsBetween kind shared t worked.rounds worked.seat in subst F (ap (λ (k : ℕ). take k list) all ∙ take_all (length list) list (omega arith)) between;
+          pairs = all;
+          buffers =
               let a = r.buffers_left in
               let b = ap (λ (t : List Pair). length (runs room t)) whole in
-              by_size full.pairs
-              (λ e. let c = ap (λ (t : List Pair). length (runs room (t ++ []))) e in let n = none (ap (λ (t : List Pair). length t) e) in omega arith)
-              (λ h. let c = ap (λ (t : List (List Pair)). length t) (alone h) in let n = some h in omega arith);
+              by_size full
+              (λ e. let c = ap (λ (t : List Pair). length (runs room (t ++ []))) e in let n : length full ≡ 0 = ap (λ (t : List Pair). length t) e in let m = min_none (length full) n in omega arith)
+              (λ h. let c = ap (λ (t : List (List Pair)). length t) (alone h) in let m = min_one (length full) h in omega arith);
           all_rounds =
               let a = r.rounds_left in
               let b = ap (λ (t : List Pair). rounds room t) whole in
-              let d = w.counted in
-              by_size full.pairs
+              by_size full
               (λ e. let c = ap (λ (t : List Pair). rounds room (t ++ [])) e in let m = ap (λ (t : List Pair). length (groups t)) e in let n = no_groups in omega arith)
-              (λ h. let c = first_rounds room full.pairs [] (alone h) in omega arith);
-          has_ended = l.1;
+              (λ h. let c = first_rounds room full [] (alone h) in omega arith);
         }
       where
         by_size : {P : Type 0} (xs : List Pair) → (xs ≡ [] → P) → (1 ≤ length xs → P) → P

@@ -1,9 +1,11 @@
 -- What contracts see of an engine, and of the words that it leaves.
-use Rattle.std.specs.Prelude.{◌≡◌, ℕ, ◌^◌, ◌<◌, List, slice_index_or}
+use Rattle.std.specs.Prelude.{◌≡◌, ℕ, ◌+◌, ◌*◌, ◌^◌, ◌<◌, List, length, slice_index_or}
 use Rattle.dpe_base.specs.declared.TheConstants.{EMPTY}
 use Rattle.dpe_base.specs.declared.pair.Pair.{Pair}
 use Rattle.dpe_base.specs.Queries.{JoinQuery, relations}
 use Rattle.join_tree.specs.Trees.{Made, Least}
+use Rattle.reorder_buffer.specs.Groups.{runs, rounds}
+use Rattle.dpe_engine.specs.declared.engine.Solved.{Solved}
 
 -- the query, the pairs that will be worked, how many of them a buffer holds, and how many workers there are
 pub record EnginePlan : Type 0 where
@@ -21,3 +23,12 @@ pub record IsLeastWord (kind : ℕ) (q : JoinQuery) (pairs : List Pair) (s w : �
 abbrev pub AreLeastWords : ℕ → JoinQuery → List Pair → List ℕ → Type 0
 AreLeastWords kind q pairs row =
     (s : ℕ) → s < 2 ^ relations q → IsLeastWord kind q pairs s (slice_index_or row s 0)
+
+-- what a run leaves of an engine
+pub record IsSolved (kind : ℕ) (plan : EnginePlan) (solved : Solved) : Type 0 where
+  pub size : length solved.words.row ≡ 2 ^ relations plan.query
+  pub words : AreLeastWords kind plan.query plan.pairs solved.words.row
+  pub pairs : solved.pairs ≡ length plan.pairs
+  pub drawn : solved.words.drawn ≡ solved.pairs + plan.workers * solved.rounds
+  pub buffers : solved.buffers ≡ length (runs plan.buffer plan.pairs)
+  pub all_rounds : solved.rounds ≡ rounds plan.buffer plan.pairs

@@ -1,25 +1,28 @@
 -- What a round does to the main seat.
 use Rattle.std.specs.Prelude.{◌≡◌, ℕ, ◌+◌, ◌*◌, ◌≤◌, ◌<◌, ◌⊎◌, [], List, length, All, Contains, slice_index_or, sum_by}
 use Rattle.dpe_base.specs.declared.pair.Pair.{Pair}
-use Rattle.dpe_base.specs.declared.TheConstants.{WEIGHT}
+use Rattle.dpe_base.specs.declared.TheConstants.{WEIGHT, WORKERS_MAX}
 use Rattle.memo_table.specs.Seats.{MemoTable, SeatView, IsSeatOf, BoundsAreMade}
-use Rattle.memo_table.specs.Views.{times, EachOnceBelow}
+use Rattle.memo_table.specs.Views.{times, EachOnceBelow, with_floor}
 use Rattle.dpe_engine.specs.Working.{past, IsDone, AreWorkable, IsReady, HasWorked}
 
 -- what a round asks of the main seat
 pub record MayWorkRound (kind : ℕ) (memo : MemoTable) (workers : ℕ) (group : List Pair) (s : SeatView) : Type 0 where
   pub some : 1 ≤ workers
-  pub few : workers ≤ 64
+  pub few : workers ≤ WORKERS_MAX
   pub seat : IsSeatOf memo s
   pub weight : s.view.weight ≡ WEIGHT
   pub allowance : workers * (length group + 1) ≤ s.view.allowance
   pub workable : AreWorkable kind group s
 
--- The tickets are the numbers below the base, the pairs and the workers, each once, and each pair is done
+-- The tickets are the numbers below the base, the pairs and the workers, each once; the counter was seen there; and each
+-- pair is done
 pub record HasWorkedRound (kind : ℕ) (memo : MemoTable) (base workers : ℕ) (group : List Pair) (before after : SeatView) : Type 0 where
   pub seat : IsSeatOf memo after
   pub weight : after.view.weight ≡ WEIGHT
   pub began : EachOnceBelow base before.view.tickets
+  pub reached : before.view.floor ≤ base
+  pub floor : after.view.floor ≡ base + length group + workers
   pub made : BoundsAreMade kind after.view
   pub tickets : EachOnceBelow (base + length group + workers) after.view.tickets
   pub allowance : after.view.allowance + length group + workers ≡ before.view.allowance
@@ -56,6 +59,17 @@ pub record IsSplit (memo : MemoTable) (before after : SeatView) (crew : List Sea
   pub size : length crew ≡ workers
   pub each : All (IsWorkerSeat memo before draws) crew
 
+-- A round is open: the counter was at the base, and each worker has its seat
+pub record HasOpenedRound (kind : ℕ) (memo : MemoTable) (base workers : ℕ) (group : List Pair) (before after : SeatView) (crew : List SeatView) : Type 0 where
+  pub first : SeatView
+  pub looked : first.view ≡ with_floor before.view base
+  pub some : 1 ≤ workers
+  pub weight : before.view.weight ≡ WEIGHT
+  pub known : EachOnceBelow base before.view.tickets
+  pub reached : before.view.floor ≤ base
+  pub split : IsSplit memo first after crew workers (length group + 1)
+  pub ready : AreReady kind memo base group crew
+
 -- ---- sums over the main seat and the crew
 
 abbrev pub weights : SeatView → List SeatView → ℕ
@@ -89,15 +103,3 @@ pub record IsGathered (memo : MemoTable) (before : SeatView) (crew : List SeatVi
   pub taken : (b : ℕ × ℕ) → HasAmong crew b → Contains after.view.bounds b
   pub drawn : (x : ℕ) → times x after.view.tickets ≡ all_times x before crew
   pub passed : (end : ℕ) → past end after.view.tickets ≡ all_past end before crew
-
--- part of the crew is taken in, and these are left
-pub record IsGathering (memo : MemoTable) (before : SeatView) (crew : List SeatView) (now : SeatView) (rest : List SeatView) : Type 0 where
-  pub seat : IsSeatOf memo now
-  pub left : All (IsSeatOf memo) rest
-  pub bounds : (b : ℕ × ℕ) → Contains before.view.bounds b → Contains now.view.bounds b
-  pub weight : weights now rest ≡ weights before crew
-  pub allowance : allowances now rest ≡ allowances before crew
-  pub counted : all_drawn now rest ≡ all_drawn before crew
-  pub taken : (b : ℕ × ℕ) → HasAmong crew b → Contains now.view.bounds b ⊎ HasAmong rest b
-  pub drawn : (x : ℕ) → all_times x now rest ≡ all_times x before crew
-  pub passed : (end : ℕ) → all_past end now rest ≡ all_past end before crew

@@ -1,12 +1,12 @@
 -- What one worker needs, and what it leaves.
-use Rattle.std.specs.Prelude.{◌≡◌, ℕ, ◌+◌, ◌<◌, ◌≤◌, ◌⊎◌, nat_le, Bool, false, if◌then◌else◌, List, ◌++◌, length, count_by, Contains, slice_index_or, []}
+use Rattle.std.specs.Prelude.{◌≡◌, ℕ, ◌+◌, ◌<◌, ◌≤◌, ◌⊎◌, nat_le, List, ◌++◌, length, count_by, Contains, slice_index_or, []}
 use Rattle.dpe_base.specs.declared.TheConstants.{EMPTY}
 use Rattle.dpe_base.specs.declared.pair.Pair.{Pair}
 use Rattle.dpe_base.specs.Queries.{JoinQuery, IsQuery}
 use Rattle.dpe_base.specs.Sets.{union}
-use Rattle.join_graph.specs.Graphs.{graph_of}
+use Rattle.join_graph.specs.Graphs.{Pairs, graph_of}
 use Rattle.card_scaled.specs.Cards.{RowTable, IsCardTable}
-use Rattle.join_tree.specs.Trees.{LeastOfPair, Builds}
+use Rattle.join_tree.specs.Trees.{LeastOfPair}
 use Rattle.memo_table.specs.Seats.{MemoTable, SeatView, IsSeatOf, Settled}
 use Rattle.memo_table.specs.Views.{times}
 
@@ -14,10 +14,10 @@ use Rattle.memo_table.specs.Views.{times}
 abbrev pub past : ℕ → List ℕ → ℕ
 past end xs = count_by (λ x. nat_le end x) xs
 
--- the memo is of a query and of a list that builds its sides, and the cards are the query's
+-- the memo is of a query and of a list of its csg-cmp-pairs, and the cards are the query's
 pub record IsMemoOfQuery (memo : MemoTable) (cards : RowTable) : Type 0 where
   pub query : IsQuery memo.query
-  pub builds : Builds (graph_of memo.query) memo.pairs
+  pub within : (p : Pair) → Contains memo.pairs p → Pairs (graph_of memo.query) p
   pub rows : IsCardTable memo.query cards
 
 -- some bound of the set is at most w
@@ -71,14 +71,3 @@ pub record HasWorked (kind base : ℕ) (group : List Pair) (before after : SeatV
 pub record HasWorkedPair (kind : ℕ) (p : Pair) (before after : SeatView) : Type 0 where
   pub drawn : HasDrawn before after []
   pub done : IsDone kind before.view.query before.view.pairs after.view.bounds p
-
--- A worker on its way: what it has drawn, the places that it has still to work, and whether a number was past the end.
--- Until then its next number is far enough
-pub record IsWorking (kind base : ℕ) (group : List Pair) (before now : SeatView) (waiting : List ℕ) (over : Bool) : Type 0 where
-  pub tickets : List ℕ
-  pub drawn : HasDrawn before now tickets
-  pub passed : past (base + length group) tickets ≡ if over then 1 else 0
-  pub reached : over ≡ false → (length tickets ≡ 0) ⊎ ((t : ℕ) × Contains now.view.tickets t × (t < base + length group) × (base + length tickets ≤ t + 1))
-  pub inside : (k : ℕ) → Contains waiting k → k < length group
-  pub done : (k : ℕ) (d : Pair) → k < length group → 0 < times (base + k) tickets
-      → IsDone kind before.view.query before.view.pairs now.view.bounds (slice_index_or group k d) ⊎ Contains waiting k

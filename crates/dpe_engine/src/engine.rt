@@ -1,23 +1,24 @@
 //! A whole run: all pairs of a stream are worked, buffer by buffer.
-ghost use Rattle.std.specs.Prelude.{◌≡◌, ◌+◌, ◌*◌, ◌<◌, ◌≤◌, ◌^◌, ◌⊎◌, ℕ, IsTrue, IfOk, Contains, length, vec_capacity};
+ghost use Rattle.std.specs.Prelude.{◌≡◌, ◌+◌, ◌*◌, ◌<◌, ◌≤◌, ◌^◌, ◌⊎◌, IsTrue, IfOk, Contains, length};
 ghost use Rattle.dpe_base.specs.declared.pair.Pair.{Pair};
 ghost use Rattle.dpe_base.specs.Queries.{relations};
 ghost use Rattle.join_graph.specs.Graphs.{Pairs, graph_of};
 ghost use Rattle.pair_stream.specs.Orders.{Ordered};
 ghost use Rattle.reorder_buffer.specs.Groups.{runs, rounds};
-ghost use Rattle.dpe_engine.specs.Engines.{AreLeastWords, EnginePlan};
-ghost use Rattle.dpe_engine.specs.Between.{IsRunning, HasEnded};
+ghost use Rattle.dpe_engine.specs.Engines.{AreLeastWords, EnginePlan, IsSolved};
+ghost use Rattle.dpe_engine.specs.Between.{plan_of, HasEnded};
 
+use crate::consumer::Consumer;
 use crate::gate::Gate;
-use crate::groups::work_groups;
+use crate::pipeline::{exchange, work_all};
+use crate::producer::Producer;
 use crate::shared::Shared;
-use crate::steps::{Progress, fill_next, step};
 use card_scaled::CardTable;
 use cost_model::CostModel;
-use dpe_base::{N_MAX, Query};
+use dpe_base::{BUFFER_MAX, N_MAX, Query, WORKERS_MAX};
 use memo_table::{Memo, MemoSeat, Words};
 use pair_stream::PairStream;
-use reorder_buffer::{Buffer, ROOM_MAX};
+use reorder_buffer::Buffer;
 use std::alloc::{AllocError, Global};
 use std::marker::Model;
 use std::thread::Threads;
@@ -40,16 +41,14 @@ pub struct Solved {
 #[derive(Drop)]
 pub struct Engine<M: CostModel> {
     shared: Shared<M>,
-    first: Buffer,
-    second: Buffer,
-    crew: Vec<MemoSeat<M>>,
-    seat: MemoSeat<M>,
+    consumer: Consumer<M>,
+    // The buffer that is filled first.
+    next: Buffer,
     // As asked for. The two buffers may have less room, where a list can't fill it.
     buffer: u32,
 }
 
 impl<M: CostModel> Model for Engine<M> {
-    ghost use Rattle.std.specs.Prelude.{vec_capacity};
     ghost use Rattle.dpe_engine.specs.Engines.{EnginePlan};
     ghost use Rattle.dpe_engine.specs.Between.{IsPrepared};
 
@@ -57,70 +56,7 @@ impl<M: CostModel> Model for Engine<M> {
 
     ghost view = { λ e. record { query = e.shared.memo.query; pairs = e.shared.memo.pairs; buffer = e.buffer; workers = e.shared.workers } };
 
-    ghost invariant = { λ e. IsPrepared M.KIND e.shared.memo e.shared.cards e.shared.workers e.buffer e.first e.second e.crew.items (vec_capacity e.crew) e.seat };
-}
-
-// Works all full buffers, and fills the next one meanwhile.
-fn work_full_buffers<P: PairStream, M: CostModel, G: Gate, R: Threads + Sync>(
-    rt: &R,
-    shared: &Shared<M>,
-    gate: &G,
-    progress: Progress<P, M>,
-) -> Progress<P, M>
-    requires { IsRunning M.KIND shared.now.memo shared.now.cards shared.now.workers progress.full.room progress.pairs progress.buffers progress.rounds (P.left progress.stream) (P.ended progress.stream) progress.full progress.next progress.crew.items (vec_capacity progress.crew) progress.seat }
-    ensures running { IsRunning M.KIND shared.now.memo shared.now.cards shared.now.workers progress.full.room result.pairs result.buffers result.rounds (P.left result.stream) (P.ended result.stream) result.full result.next result.crew.items (vec_capacity result.crew) result.seat }
-    ensures total { P.total result.stream ≡ P.total progress.stream }
-    ensures short { length result.full.pairs < progress.full.room }
-{
-    let mut progress = progress;
-    'buffers: while progress.full.is_full() {
-        progress = step(rt, shared, gate, progress);
-    }
-    progress
-}
-
-// What is left of a run but the words.
-struct Ended<P, M: CostModel> {
-    stream: P,
-    seat: MemoSeat<M>,
-    pairs: u64,
-    buffers: u64,
-    rounds: u64,
-}
-
-// Works the last buffer, which is not full.
-fn work_last_buffer<P: PairStream, M: CostModel, G: Gate, R: Threads + Sync>(
-    rt: &R,
-    shared: &Shared<M>,
-    gate: &G,
-    progress: Progress<P, M>,
-) -> Ended<P, M>
-    requires running { IsRunning M.KIND shared.now.memo shared.now.cards shared.now.workers progress.full.room progress.pairs progress.buffers progress.rounds (P.left progress.stream) (P.ended progress.stream) progress.full progress.next progress.crew.items (vec_capacity progress.crew) progress.seat }
-    requires short { length progress.full.pairs < progress.full.room }
-    ensures ended { HasEnded M.KIND shared.now.memo shared.now.cards shared.now.workers progress.full.room result.pairs result.buffers result.rounds (P.left result.stream) (P.ended result.stream) result.seat }
-    ensures total { P.total result.stream ≡ P.total progress.stream }
-{
-    let Progress {
-        stream,
-        full: mut last,
-        next: _,
-        mut crew,
-        mut seat,
-        pairs,
-        buffers,
-        rounds,
-    } = progress;
-    let rounds = work_groups(
-        rt, shared, gate, pairs, rounds, &mut last, &mut crew, &mut seat,
-    );
-    let count = last.len() as u64;
-    Ended {
-        stream,
-        seat,
-        pairs: pairs + count,
-        buffers: buffers + count.min(1),
-        rounds,
-    }
+    ghost invariant = { λ e. IsPrepared M.KIND e.buffer e.shared e.next e.consumer };
 }
 
 // How many pairs there is room for: a pair is two sets, and a buffer that has room for one more than there are pairs of
@@ -136,11 +72,40 @@ fn room_for(n: u8, buffer: u32) -> u32
     most.min(buffer as u64) as u32
 }
 
+// The words of the memo once all pairs are processed, and the counts.
+fn finish<M: CostModel>(shared: Shared<M>, consumer: Consumer<M>) -> Solved
+    requires { HasEnded M.KIND shared consumer }
+    ensures { IsSolved M.KIND (plan_of shared consumer) result }
+{
+    let Shared {
+        memo,
+        model: _,
+        cards: _,
+        workers: _,
+    } = shared;
+    let Consumer {
+        full: _,
+        seat,
+        crew: _,
+        pairs,
+        buffers,
+        rounds,
+    } = consumer;
+    let words = memo.finish(seat);
+    Solved {
+        words,
+        pairs,
+        buffers,
+        rounds,
+    }
+}
+
 impl<M: CostModel> Engine<M> {
     /// An engine for the pairs that the stream has left. The stream is only named: no pair is taken from it. Each pair
     /// is a csg-cmp-pair of the query, and stands after the pairs that build its sides.
     ///
-    /// `buffer` is how many pairs are taken at once, 1 to `ROOM_MAX`, and `workers` how many seats work a group, 1 to 64.
+    /// `buffer` is how many pairs are taken at once, 1 to `BUFFER_MAX`, and `workers` how many seats work a group, 1 to
+    /// `WORKERS_MAX`.
     /// It takes all memory that `run` needs: the memo's word and the rows of each set, two buffers, and a seat for each
     /// worker. Where there is not as much, it is an `AllocError`. The buffers have no more room than the pairs of so few
     /// relations can fill.
@@ -152,8 +117,8 @@ impl<M: CostModel> Engine<M> {
         workers: u32,
         stream: &P,
     ) -> Result<Engine<M>, AllocError>
-        requires buffer { (1 ≤ buffer) × (buffer ≤ ROOM_MAX) }
-        requires workers { (1 ≤ workers) × (workers ≤ 64) }
+        requires buffer { (1 ≤ buffer) × (buffer ≤ BUFFER_MAX) }
+        requires workers { (1 ≤ workers) × (workers ≤ WORKERS_MAX) }
         requires within { (p : Pair) → Contains (P.left stream.now) p → Pairs (graph_of query.now) p }
         requires ordered { Ordered (P.left stream.now) }
         ensures { IfOk result (λ e. e ≡ record { query = query.now; pairs = P.left stream.now; buffer = buffer; workers = workers }) }
@@ -164,20 +129,26 @@ impl<M: CostModel> Engine<M> {
         let cards = CardTable::make(alloc, query)?;
         let crew = Vec::with_capacity(alloc, workers as usize)?;
         let room = room_for(n, buffer);
-        let first = Buffer::with_capacity(alloc, room)?;
-        let second = Buffer::with_capacity(alloc, room)?;
+        let full = Buffer::with_capacity(alloc, room)?;
+        let next = Buffer::with_capacity(alloc, room)?;
         let shared = Shared {
             memo,
             model,
             cards,
             workers,
         };
+        let consumer = Consumer {
+            full,
+            seat,
+            crew,
+            pairs: 0,
+            buffers: 0,
+            rounds: 0,
+        };
         Ok(Engine {
             shared,
-            first,
-            second,
-            crew,
-            seat,
+            consumer,
+            next,
             buffer,
         })
     }
@@ -216,46 +187,14 @@ impl<M: CostModel> Engine<M> {
     {
         let Engine {
             shared,
-            first,
-            second,
-            crew,
-            seat,
+            consumer,
+            next,
             buffer: _,
         } = self;
-        let (stream, first) = fill_next(gate, 0, stream, first);
-        let progress = Progress {
-            stream,
-            full: first,
-            next: second,
-            crew,
-            seat,
-            pairs: 0,
-            buffers: 0,
-            rounds: 0,
-        };
-        let progress = work_full_buffers(rt, &shared, gate, progress);
-        let Ended {
-            stream,
-            seat,
-            pairs,
-            buffers,
-            rounds,
-        } = work_last_buffer(rt, &shared, gate, progress);
-        let Shared {
-            memo,
-            model: _,
-            cards: _,
-            workers: _,
-        } = shared;
-        let words = memo.finish(seat);
-        (
-            Solved {
-                words,
-                pairs,
-                buffers,
-                rounds,
-            },
-            stream,
-        )
+        let producer = Producer { stream, next }.fill(gate, 0);
+        let (producer, consumer) = exchange(producer, consumer);
+        let (producer, consumer) = work_all(rt, &shared, gate, producer, consumer);
+        let Producer { stream, next: _ } = producer;
+        (finish(shared, consumer), stream)
     }
 }

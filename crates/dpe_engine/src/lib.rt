@@ -1,15 +1,22 @@
-//! An engine that works all pairs of a query over one shared memo, by rounds of workers. Each worker draws tickets, and works
-//! the pair of each: it loads the words of both sides, and offers the least word of their join.
+//! An engine that processes all pairs of a query over one shared memo, by rounds of workers. Each worker draws tickets, and
+//! processes the pair of each: it loads the words of both sides, and offers the least word of their join.
+//!
+//! Begin with `Engine`: `prepare` takes all memory, and `run` leaves the least word of each set. It is made of three
+//! layers, each with its own module: one worker (`worker`), one round of all workers over a group of pairs
+//! (`whole_round`), and one run over all buffers (`engine`, which moves a `Producer` and a `Consumer` from buffer to
+//! buffer in `pipeline`). `threads` decides what goes to threads of its own.
 #![tactic(auto)]
 
+mod consumer;
 mod crew;
 mod engine;
 mod gate;
-mod groups;
+mod pipeline;
+mod producer;
 mod shared;
-mod steps;
 #[cfg(test)]
 mod tests;
+mod threads;
 mod whole_round;
 mod worker;
 

@@ -45,13 +45,13 @@ const BURST: usize = 16;
 /// `EMPTY`. It takes no memory.
 pub fn work<M: CostModel, G: Gate>(
     memo: &Memo<M>,
+    seat: &mut MemoSeat<M>,
     base: u64,
     pairs: &[Pair],
     model: &M,
     cards: &CardTable,
     gate: &G,
     worker: u32,
-    seat: &mut MemoSeat<M>,
 )
     requires planned { IsMemoOfQuery memo.now cards.now }
     requires ready { IsReady M.KIND memo.now base pairs.now seat.old }

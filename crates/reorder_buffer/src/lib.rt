@@ -9,14 +9,12 @@ mod links;
 mod tests;
 
 pub use buffer::Buffer;
+use dpe_base::BUFFER_MAX;
 
 /// How many sizes a set of relations can have: 0 to 32.
 pub const SIZES: usize = 33;
 
-/// The most pairs that a buffer has room for.
-pub const ROOM_MAX: u32 = 65536;
-
 // A set has 32 binary digits, and a place has 16.
 const _: () = prove!(SIZES == u32::BITS as usize + 1);
 
-const _: () = prove!(ROOM_MAX == 1 << u16::BITS);
+const _: () = prove!(BUFFER_MAX == 1 << u16::BITS);

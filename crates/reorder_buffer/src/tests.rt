@@ -67,8 +67,7 @@ fn groups_of_a_chain_of_four(rt: HostRuntime) -> Result<(), Fail> {
     for run in 0..4u32 {
         buffer.fill(&mut stream);
         for size in 0..40u32 {
-            buffer.pick(size);
-            for pair in buffer.group() {
+            for pair in buffer.group(size) {
                 seen.push((run, size, pair.a.bits(), pair.b.bits()))?;
             }
         }

@@ -1,5 +1,5 @@
 use Rattle.std.proofs.Common.{◌≡◌, vec_capacity}
-use Rattle.dpe_engine.specs.Rounds.{IsGathering}
+use Rattle.dpe_engine.proofs.Gathers.{IsGathering}
 use Rattle.dpe_engine.proofs.crew.gather.Given as goal
 
 abbrev pub invariant-parts : goal.invariant-parts

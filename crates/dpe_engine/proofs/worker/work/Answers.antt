@@ -1,6 +1,6 @@
 use Rattle.std.proofs.Common.{rules, arith, ◌≡◌, ◌<◌, ◌≤◌, ◌+◌, ℕ, Bool, false, cond, List, [], ◌∷◌, ◌-◌, length, length-append, get_or, sym, ap, ◌∙◌, subst}
 use Rattle.std.proofs.lemmas.List.{drop_all}
-use Rattle.dpe_engine.specs.Working.{IsWorking}
+use Rattle.dpe_engine.proofs.Bursts.{IsWorking}
 use Rattle.dpe_engine.proofs.Bursts.{begins, draws_in, draws_out, less, place_inside, may_draw, may_work, works_on, ends, works_at, full_some}
 use Rattle.dpe_engine.proofs.worker.work.Goals.{then-draws-test+else-not-is_full, else-draws-test}
 use Rattle.dpe_engine.proofs.worker.work.Goals as goal

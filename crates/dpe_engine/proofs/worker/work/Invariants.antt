@@ -1,5 +1,5 @@
 use Rattle.std.proofs.Common.{◌≡◌, ◌+◌, cond, [], length, drop}
-use Rattle.dpe_engine.specs.Working.{IsWorking}
+use Rattle.dpe_engine.proofs.Bursts.{IsWorking}
 use Rattle.dpe_engine.proofs.worker.work.Given as goal
 
 abbrev pub invariant-bursts : goal.invariant-bursts

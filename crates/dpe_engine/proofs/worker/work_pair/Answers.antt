@@ -5,10 +5,10 @@ use Rattle.dpe_base.proofs.Members.{contains_tail}
 use Rattle.card_scaled.specs.Cards.{rows}
 use Rattle.join_tree.specs.Trees.{Made, Least, pair_word}
 use Rattle.card_scaled.proofs.CardLaws.{rows_bounds}
-use Rattle.join_tree.proofs.BuiltLists.{built_lists_are_workable}
 use Rattle.memo_table.specs.declared.view.View.{View}
 use Rattle.memo_table.specs.Seats.{Settled}
 use Rattle.memo_table.specs.Views.{with_bound, with_offer}
+use Rattle.dpe_engine.proofs.SoundPairs.{sound_pair}
 use Rattle.dpe_engine.proofs.PairSteps.{pair_of_query, stays_settled, worked_pair, word_is}
 use Rattle.dpe_engine.proofs.worker.work_pair.Goals as goal
 
@@ -18,26 +18,26 @@ load-second-requires-clause-held g c = λ κs h.
     (c.requires.second.word, subst F (sym c.load-first.ensures.view) (contains_tail _ _ _ c.requires.second.bound))
 
 pub rows-rows_a-requires-clause-some : goal.rows-rows_a-requires-clause-some
-rows-rows_a-requires-clause-some g c = (pair_of_query _ _ c.requires.planned.query (c.requires.planned.builds.within _ c.requires.listed)).some_first
+rows-rows_a-requires-clause-some g c = (pair_of_query _ _ c.requires.planned.query (c.requires.planned.within _ c.requires.listed)).some_first
 
 pub rows-rows_a-requires-clause-within : goal.rows-rows_a-requires-clause-within
-rows-rows_a-requires-clause-within g c = rw c.requires.planned.rows.sized ((pair_of_query _ _ c.requires.planned.query (c.requires.planned.builds.within _ c.requires.listed)).first)
+rows-rows_a-requires-clause-within g c = rw c.requires.planned.rows.sized ((pair_of_query _ _ c.requires.planned.query (c.requires.planned.within _ c.requires.listed)).first)
 
 pub rows-rows_b-requires-clause-some : goal.rows-rows_b-requires-clause-some
-rows-rows_b-requires-clause-some g c = (pair_of_query _ _ c.requires.planned.query (c.requires.planned.builds.within _ c.requires.listed)).some_second
+rows-rows_b-requires-clause-some g c = (pair_of_query _ _ c.requires.planned.query (c.requires.planned.within _ c.requires.listed)).some_second
 
 pub rows-rows_b-requires-clause-within : goal.rows-rows_b-requires-clause-within
-rows-rows_b-requires-clause-within g c = rw c.requires.planned.rows.sized ((pair_of_query _ _ c.requires.planned.query (c.requires.planned.builds.within _ c.requires.listed)).second)
+rows-rows_b-requires-clause-within g c = rw c.requires.planned.rows.sized ((pair_of_query _ _ c.requires.planned.query (c.requires.planned.within _ c.requires.listed)).second)
 
 pub rows-rows-requires-clause-some : goal.rows-rows-requires-clause-some
-rows-rows-requires-clause-some g c = rw c.union-union.ensures ((pair_of_query _ _ c.requires.planned.query (c.requires.planned.builds.within _ c.requires.listed)).some_union)
+rows-rows-requires-clause-some g c = rw c.union-union.ensures ((pair_of_query _ _ c.requires.planned.query (c.requires.planned.within _ c.requires.listed)).some_union)
 
 pub rows-rows-requires-clause-within : goal.rows-rows-requires-clause-within
-rows-rows-requires-clause-within g c = rw (c.union-union.ensures, c.requires.planned.rows.sized) ((pair_of_query _ _ c.requires.planned.query (c.requires.planned.builds.within _ c.requires.listed)).both)
+rows-rows-requires-clause-within g c = rw (c.union-union.ensures, c.requires.planned.rows.sized) ((pair_of_query _ _ c.requires.planned.query (c.requires.planned.within _ c.requires.listed)).both)
 
 pub best_split-word-requires-clause-sets : goal.best_split-word-requires-clause-sets
 best_split-word-requires-clause-sets g c = λ κs h.
-    let p = pair_of_query _ _ c.requires.planned.query (c.requires.planned.builds.within _ c.requires.listed) in (p.small_first, p.small_second)
+    let p = pair_of_query _ _ c.requires.planned.query (c.requires.planned.within _ c.requires.listed) in (p.small_first, p.small_second)
 
 pub best_split-word-requires-clause-left : goal.best_split-word-requires-clause-left
 best_split-word-requires-clause-left g c = λ κs h.
@@ -52,10 +52,10 @@ best_split-word-requires-clause-out g c = λ κs h.
     rw (c.rows-rows.ensures.cardinality _ c.requires.planned.rows) (rows_bounds c.args.memo.now.query c.union-union.result)
 
 pub offer-requires-clause-some : goal.offer-requires-clause-some
-offer-requires-clause-some g c = λ κs h. rw c.union-union.ensures ((pair_of_query _ _ c.requires.planned.query (c.requires.planned.builds.within _ c.requires.listed)).some_union)
+offer-requires-clause-some g c = λ κs h. rw c.union-union.ensures ((pair_of_query _ _ c.requires.planned.query (c.requires.planned.within _ c.requires.listed)).some_union)
 
 pub offer-requires-clause-within : goal.offer-requires-clause-within
-offer-requires-clause-within g c = λ κs h. rw c.union-union.ensures ((pair_of_query _ _ c.requires.planned.query (c.requires.planned.builds.within _ c.requires.listed)).both)
+offer-requires-clause-within g c = λ κs h. rw c.union-union.ensures ((pair_of_query _ _ c.requires.planned.query (c.requires.planned.within _ c.requires.listed)).both)
 
 pub offer-requires-clause-word : goal.offer-requires-clause-word
 offer-requires-clause-word g c = λ κs h.
@@ -64,7 +64,7 @@ offer-requires-clause-word g c = λ κs h.
     let is = word_is kind q c.args.pair c.load-first.result c.load-second.result _ _ _ _ c.best_split-word.ensures
     (c.rows-rows_a.ensures.cardinality q c.requires.planned.rows) (c.rows-rows_b.ensures.cardinality q c.requires.planned.rows)
     (c.rows-rows.ensures.cardinality q c.requires.planned.rows ∙ ap (rows q) c.union-union.ensures) in
-    let sound = (built_lists_are_workable kind q c.args.memo.now.pairs c.requires.planned.query c.requires.planned.builds).sound
+    let sound = sound_pair kind q c.args.memo.now.pairs c.requires.planned.query c.requires.planned.within
     c.args.pair c.load-first.result c.load-second.result c.requires.listed c.load-first.ensures.made c.load-second.ensures.made in
     let F : ℕ → Type 0 = λ w. (w ≡ EMPTY) ⊎ Made kind q c.args.memo.now.pairs (union c.args.pair.a c.args.pair.b) w in
     let G : ℕ → Type 0 = λ s. (c.best_split-word.result ≡ EMPTY) ⊎ Made kind q c.args.memo.now.pairs s c.best_split-word.result in
