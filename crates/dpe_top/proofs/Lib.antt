@@ -1,6 +1,5 @@
 pub mod Plans
 pub mod Reporting
-pub mod BestWords
 pub mod Sums
 pub mod OneSample
 pub mod OneReport

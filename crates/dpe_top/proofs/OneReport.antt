@@ -18,7 +18,7 @@ use Rattle.plan_report.specs.declared.report.Format.{Format}
 use Rattle.plan_report.specs.Entries.{PlannedQuery, ReportEntry, planned, refused}
 use Rattle.plan_report.specs.Reports.{report_bytes}
 use Rattle.dpe_words.specs.declared.choices.Settings.{Settings}
-use Rattle.dpe_top.specs.Enumerations.{stats_of, stats_with}
+use Rattle.dpe_top.specs.Statistics.{stats_of, stats_with}
 use Rattle.dpe_top.specs.Laws.{OneReport, WorkersDoNotShow, OnlyStatisticsShowTheEnumerator}
 use Rattle.dpe_top.specs.Reports.{IsPlanned, IsEntrySaid, Says, IsReport, kind_of}
 use Rattle.query_json.proofs.SoundEntries.{sound_entries}

@@ -22,7 +22,7 @@ use Rattle.workload_gen.specs.Values.{workload_of}
 use Rattle.query_json.specs.Sound.{IsEntrySound, IsPartSound}
 use Rattle.dpe_top.specs.declared.summary.Share.{Share}
 use Rattle.dpe_top.specs.Laws.{OneCount, OneSample}
-use Rattle.dpe_top.specs.Plans.{IsPairCount}
+use Rattle.planner.specs.Plans.{IsPairCount}
 use Rattle.query_json.proofs.SoundEntries.{sound_entries}
 use Rattle.dpe_top.specs.Summary.{IsShare, AreShares, IsSummary, planned_queries, totals_of, summary_line}
 

@@ -1,5 +1,4 @@
-pub mod Enumerations
-pub mod Plans
+pub mod Statistics
 pub mod Totals
 pub mod Summary
 pub mod Reports

@@ -14,8 +14,8 @@ use Rattle.query_json.specs.declared.entry.Part.TheVariants.{Accepted, Refused}
 use Rattle.plan_report.specs.Entries.{PlannedQuery, ReportEntry, planned, refused}
 use Rattle.plan_report.specs.Reports.{report_bytes}
 use Rattle.dpe_words.specs.declared.choices.Settings.{Settings}
-use Rattle.dpe_top.specs.Enumerations.{stats_of}
-use Rattle.dpe_top.specs.Plans.{IsPairCount}
+use Rattle.dpe_top.specs.Statistics.{stats_of}
+use Rattle.planner.specs.Plans.{IsPairCount}
 
 -- the number of the model in costs and words
 abbrev pub kind_of : ModelKind → ℕ

@@ -12,7 +12,7 @@ use Rattle.plan_report.specs.Texts.{newline}
 use Rattle.workload_gen.specs.Values.{workload_of}
 use Rattle.dpe_top.specs.declared.summary.Share.{Share}
 use Rattle.dpe_top.specs.declared.summary.Totals.{Totals}
-use Rattle.dpe_top.specs.Plans.{IsPairCount}
+use Rattle.planner.specs.Plans.{IsPairCount}
 
 abbrev pub query_in : Part → Option JoinQuery
 query_in (Accepted named) = Some named.query

@@ -9,30 +9,28 @@ ghost use Rattle.dpe_top.specs.Reply.{AtOnce, IsAnswered, IsReported, IsText, Is
 
 use crate::INPUT_MAX;
 use crate::lines::{fault_line, too_long_line};
+use crate::planning::Planning;
 use crate::reply::Reply;
-use crate::report::{has_refused, report_of};
+use crate::report::has_refused;
 use crate::status::Status;
-use crate::summary::sample;
-use dpe_engine::Gate;
-use dpe_words::{Mode, Settings, WordFault, settings, usage_line};
+use dpe_words::{Mode, WordFault, settings, usage_line};
 use io_edge::{ReadEnd, Sink, Source, read_all, write_all};
+use planner::Gate;
 use query_json::FileFault;
 use std::alloc::{AllocError, Global};
 use std::thread::Threads;
 
 /// The answer to bytes that are no more than a workload may have.
 fn reply_to_bytes<R: Threads + Sync, G: Gate>(
-    rt: &R,
-    alloc: Global,
-    settings: &Settings,
+    planning: &Planning<G, R>,
     bytes: &[u8],
-    gate: &G,
 ) -> Result<Reply, AllocError>
-    requires ranges { AreInRange settings.now }
+    requires ranges { AreInRange planning.now.settings.now }
     requires short { length bytes.now ≤ most_bytes }
-    ensures said { IfOk result (Replies (answer_of_bytes settings.now bytes.now)) }
+    ensures said { IfOk result (Replies (answer_of_bytes planning.now.settings.now bytes.now)) }
     ensures whole { IfOk result (λ r. IsWhole r.status) }
 {
+    let alloc = planning.alloc;
     match query_json::read(alloc, bytes) {
         Ok(workload) => Ok(Reply {
             status: if has_refused(&workload) {
@@ -40,7 +38,7 @@ fn reply_to_bytes<R: Threads + Sync, G: Gate>(
             } else {
                 Status::Done
             },
-            text: report_of(rt, alloc, &workload, settings, gate)?,
+            text: planning.report(&workload)?,
         }),
         Err(FileFault::NoMemory) => Err(AllocError),
         Err(fault) => Ok(Reply {
@@ -52,21 +50,19 @@ fn reply_to_bytes<R: Threads + Sync, G: Gate>(
 
 /// The answer to the bytes of the source.
 fn read_reply<R: Threads + Sync, S: Source, G: Gate>(
-    rt: &R,
-    alloc: Global,
-    settings: &Settings,
+    planning: &Planning<G, R>,
     source: &mut S,
-    gate: &G,
 ) -> Result<Reply, Status>
-    requires ranges { AreInRange settings.now }
-    ensures said { IfOk result (λ r. IfSome (S.left source.old) (λ bytes. Replies (answer_of_bytes settings.now bytes) r)) }
+    requires ranges { AreInRange planning.now.settings.now }
+    ensures said { IfOk result (λ r. IfSome (S.left source.old) (λ bytes. Replies (answer_of_bytes planning.now.settings.now bytes) r)) }
     ensures whole { IfOk result (λ r. IsWhole r.status) }
     ensures took { IfOk result (λ r. Took r.status (S.left source.old) (S.left source.new)) }
     ensures kept { IfOk result (λ _. S.faults source.new ≡ S.faults source.old) }
     ensures err { IfErr result (λ e. MayEnd e (S.faults source.old) (S.faults source.new) (S.sure source.old) (S.left source.old) (S.left source.new)) }
 {
+    let alloc = planning.alloc;
     match read_all(alloc, source, INPUT_MAX) {
-        Ok(bytes) => Ok(reply_to_bytes(rt, alloc, settings, &bytes, gate)?),
+        Ok(bytes) => Ok(reply_to_bytes(planning, &bytes)?),
         Err(ReadEnd::TooLong) => Ok(Reply {
             status: Status::Input,
             text: too_long_line().as_bytes().to_vec(alloc)?,
@@ -77,19 +73,14 @@ fn read_reply<R: Threads + Sync, S: Source, G: Gate>(
 }
 
 /// The summary of the sample workload that the settings' number gives.
-fn summary_reply<R: Threads + Sync, G: Gate>(
-    rt: &R,
-    alloc: Global,
-    settings: &Settings,
-    gate: &G,
-) -> Result<Reply, AllocError>
-    requires ranges { AreInRange settings.now }
-    ensures said { IfOk result (Replies (summary settings.now.model settings.now.number)) }
+fn summary_reply<R: Threads + Sync, G: Gate>(planning: &Planning<G, R>) -> Result<Reply, AllocError>
+    requires ranges { AreInRange planning.now.settings.now }
+    ensures said { IfOk result (Replies (summary planning.now.settings.now.model planning.now.settings.now.number)) }
     ensures done { IfOk result (λ r. r.status ≡ Status.Done) }
 {
     Ok(Reply {
         status: Status::Done,
-        text: sample(rt, alloc, settings, gate)?,
+        text: planning.sample()?,
     })
 }
 
@@ -113,10 +104,18 @@ fn reply_to<R: Threads + Sync, S: Source, G: Gate>(
     ensures complete { IfOk result (λ r. IfSome (S.left source.old) (λ bytes. IsWellFormed (texts_of words.now) bytes → IsReported r.status)) }
 {
     match settings(alloc, words) {
-        Ok(settings) => match settings.mode {
-            Mode::Sample => Ok(summary_reply(rt, alloc, &settings, gate)?),
-            _ => read_reply(rt, alloc, &settings, source, gate),
-        },
+        Ok(settings) => {
+            let planning = Planning {
+                rt,
+                alloc,
+                settings: &settings,
+                gate,
+            };
+            match settings.mode {
+                Mode::Sample => Ok(summary_reply(&planning)?),
+                _ => read_reply(&planning, source),
+            }
+        }
         Err(WordFault::Usage) => Ok(Reply {
             status: Status::Usage,
             text: usage_line().as_bytes().to_vec(alloc)?,

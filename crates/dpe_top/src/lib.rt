@@ -4,7 +4,7 @@
 mod call;
 pub mod laws;
 mod lines;
-mod plan;
+mod planning;
 mod reply;
 mod report;
 mod status;
@@ -13,8 +13,8 @@ mod summary;
 mod tests;
 
 pub use call::dpe;
-pub use dpe_engine::{Gate, OpenGate};
 pub use dpe_words::{Mode, Settings, WordFault, settings, usage_line};
+pub use planner::{Gate, OpenGate};
 pub use status::Status;
 
 /// The most bytes of a workload.

@@ -2,8 +2,8 @@ use Rattle.std.proofs.Common.{◌+◌, ap, sym, subst}
 use Rattle.dpe_top.specs.declared.summary.Totals.{Totals}
 use Rattle.dpe_top.specs.Summary.{query_in}
 use Rattle.dpe_top.proofs.Sums.{HasSummed, summed_more, summed_same}
-use Rattle.dpe_top.proofs.summary.totals_under.Goals as goal
-use Rattle.dpe_top.proofs.summary.totals_under.Goals.{in-Accepted+in_ok-share, in_default}
+use Rattle.dpe_top.proofs.planning.Planning.totals_under.Goals as goal
+use Rattle.dpe_top.proofs.planning.Planning.totals_under.Goals.{in-Accepted+in_ok-share, in_default}
 
 pub entries-preserved : goal.entries-preserved
 entries-preserved g c =

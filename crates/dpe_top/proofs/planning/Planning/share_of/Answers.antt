@@ -3,7 +3,7 @@ use Rattle.dpe_base.specs.Sets.{full}
 use Rattle.dpe_base.specs.Queries.{relations}
 use Rattle.join_tree.specs.TreeOf.{tree_of}
 use Rattle.dpe_top.proofs.Plans.{plan_below}
-use Rattle.dpe_top.proofs.summary.share_of.Goals as goal
+use Rattle.dpe_top.proofs.planning.Planning.share_of.Goals as goal
 
 pub overflow_cast-cost : goal.overflow_cast-cost
 overflow_cast-cost g c =
