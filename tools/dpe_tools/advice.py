@@ -1,0 +1,245 @@
+"""From a statement to an advice: dpe's order, judged by PostgreSQL's own estimates."""
+
+from __future__ import annotations
+
+from dataclasses import dataclass, field
+from typing import Any
+
+from .database import Database
+from .estimates import estimate
+from .graphs import GRAPHS_MAX, join_graphs
+from .planner import cheapest, plan_workload
+from .plans import Plan, plan_of_explain, plan_of_report
+from .query import Query, read_query
+from .refusals import Refused
+from .rewrite import leading, rewritten
+from .sql import one_line, parse_select, pretty
+from .workload import workload_of
+
+MODELS = {"ops": ("ops",), "cout": ("cout",), "best": ("ops", "cout")}
+"""The models of dpe that are tried by the choice of a user."""
+
+BETTER_BY = 0.01
+"""The part of the default's cost by which an order must be cheaper."""
+
+AS_WRITTEN = {"join_collapse_limit": "1"}
+RUNS = 2
+"""How often a statement is run for its time, of which the least counts."""
+
+
+@dataclass(frozen=True)
+class Options:
+    """What a user may choose."""
+
+    model: str = "ops"
+    analyze: bool = False
+    full_search_seconds: float = 1.0
+
+
+@dataclass(frozen=True)
+class Explained:
+    """What PostgreSQL says of a statement under some settings: costs in its units, times in milliseconds."""
+
+    cost: float
+    planning: float
+    plan: Plan | None
+    execution: float | None = None
+
+    @classmethod
+    def of(cls, answer: dict[str, Any], query: Query) -> Explained:
+        """From the JSON of EXPLAIN."""
+        plan = plan_of_explain(answer["Plan"], frozenset(query.relations))
+        return cls(answer["Plan"]["Total Cost"], answer["Planning Time"], plan, answer.get("Execution Time"))
+
+
+@dataclass(frozen=True)
+class Order:
+    """A join order of dpe, as SQL, with PostgreSQL's plan for it."""
+
+    model: str
+    graph: str
+    plan: Plan
+    sql: str
+    explained: Explained
+
+
+@dataclass
+class Advice:
+    """The best order of dpe beside the default and the full search of PostgreSQL."""
+
+    query: Query
+    workload: dict[str, Any]
+    default: Explained
+    order: Order
+    full: Explained | None
+    full_search_seconds: float
+    notes: list[str] = field(default_factory=list)
+
+    @property
+    def is_better(self) -> bool:
+        """Whether PostgreSQL itself expects the order to be cheaper, by more than a rounding."""
+        return is_cheaper(self.order.explained.cost, self.default.cost)
+
+    @property
+    def full_is_as_good(self) -> bool:
+        """Whether a full search is cheaper than the default, and not dearer than the order."""
+        if self.full is None or not is_cheaper(self.full.cost, self.default.cost):
+            return False
+        return not is_cheaper(self.order.explained.cost, self.full.cost)
+
+
+def is_cheaper(cost: float, than: float) -> bool:
+    """Whether a cost is lower by at least BETTER_BY."""
+    return cost <= than * (1 - BETTER_BY)
+
+
+def full_search(relations: int) -> dict[str, str]:
+    """The settings under which PostgreSQL searches all orders of so many relations."""
+    return {"join_collapse_limit": str(relations), "from_collapse_limit": str(relations), "geqo": "off"}
+
+
+class Adviser:
+    """Reads one statement in a session and makes its workload."""
+
+    def __init__(self, text: str, database: Database) -> None:
+        self.database = database
+        self.text = text.strip().rstrip(";")
+        select = parse_select(text)
+        self._default = database.explain(self.text, {})
+        self._columns = database.result_columns(self.text)
+        self.query = read_query(select, database, [name for name, _ in self._columns])
+        oids = list({relation.table.oid for relation in self.query.relations.values()})
+        self.graphs = join_graphs(self.query, database.foreign_keys(oids))
+        self.estimates = estimate(self.query, self.graphs, database)
+        self.workload = workload_of(self.query, self.graphs, self.estimates)
+
+    def order(self, model: str) -> Order:
+        """The cheapest order by a model."""
+        entry = cheapest(plan_workload(self.workload, model))
+        plan = plan_of_report(entry["plan"])
+        sql = pretty(rewritten(self.query, plan))
+        if self.database.result_columns(sql) != self._columns:
+            raise Refused("the rewritten statement would give other columns")
+        explained = Explained.of(self.database.explain(sql, AS_WRITTEN), self.query)
+        return Order(model, entry["name"], plan, sql, explained)
+
+    def advise(self, options: Options) -> Advice:
+        """The advice, with times and actual rows where they are asked for."""
+        orders = [self.order(model) for model in MODELS[options.model]]
+        order = min(orders, key=lambda order: order.explained.cost)
+        default = Explained.of(self._default, self.query)
+        seconds = options.full_search_seconds
+        full = self.database.explain_within(self.text, full_search(len(self.query.relations)), seconds)
+        full = Explained.of(full, self.query) if full else None
+        advice = Advice(self.query, self.workload, default, order, full, seconds, self.notes())
+        return self._measured(advice) if options.analyze else advice
+
+    def _measured(self, advice: Advice) -> Advice:
+        advice.default = self._run(self.text, {})
+        order = advice.order
+        explained = self._run(order.sql, AS_WRITTEN)
+        advice.order = Order(order.model, order.graph, order.plan, order.sql, explained)
+        return advice
+
+    def _run(self, sql: str, settings: dict[str, str]) -> Explained:
+        answers = [self.database.explain(sql, settings, analyze=True) for _ in range(RUNS)]
+        return Explained.of(min(answers, key=lambda answer: answer["Execution Time"]), self.query)
+
+    def notes(self) -> list[str]:
+        """What the workload doesn't say, or says in one of several ways."""
+        notes = [f"not costed, over more than two relations: {one_line(node)}" for _, node in self.query.wide]
+        notes += [f"not costed, over no relation: {one_line(node)}" for node in self.query.free]
+        around = ("groupClause", "distinctClause", "sortClause", "limitCount", "havingClause", "windowClause")
+        if any(getattr(self.query.outside, clause) for clause in around):
+            notes.append("not costed by dpe: what comes after the joins (PostgreSQL's numbers include it)")
+        tried = len(self.graphs.graphs)
+        if not self.graphs.all_trees:
+            notes.append(
+                f"implied equalities: more than {GRAPHS_MAX} ways to use them, so {tried} join graphs were tried:"
+                " as written and the stars"
+            )
+        elif tried > 1:
+            notes.append(f"implied equalities: {tried} join graphs were tried, each way to use them")
+        return notes
+
+
+def text_of(advice: Advice) -> str:
+    """The advice as a text, the verdict first."""
+    parts = [_verdict(advice)]
+    if advice.is_better:
+        parts.append(sql_of(advice))
+        parts.append(_hint(advice))
+    parts.append("\n".join(table_of_joins(advice)))
+    if advice.notes:
+        parts.append("\n".join(advice.notes))
+    return "\n\n".join(parts) + "\n"
+
+
+def _verdict(advice: Advice) -> str:
+    return "\n".join(verdict_lines(advice))
+
+
+def verdict_lines(advice: Advice) -> list[str]:
+    """The verdict in PostgreSQL's own numbers, and what a full search would give."""
+    order, default = advice.order.explained, advice.default
+    verdict = "better" if advice.is_better else "keep the default"
+    lines = [f"default {default.cost:.0f}, this order {order.cost:.0f}: {verdict}", _full_search_line(advice)]
+    lines.append(f"planning: default {default.planning:.1f} ms, this order {order.planning:.1f} ms")
+    if default.execution is not None and order.execution is not None:
+        lines.append(f"execution: default {default.execution:.1f} ms, this order {order.execution:.1f} ms")
+    return lines
+
+
+def _full_search_line(advice: Advice) -> str:
+    limits = f"join_collapse_limit and from_collapse_limit at {len(advice.query.relations)}, geqo off"
+    if advice.full is None:
+        return f"full search ({limits}): not planned within {advice.full_search_seconds:g} s"
+    line = f"full search ({limits}): {advice.full.cost:.0f}, planned in {advice.full.planning:.0f} ms"
+    if advice.full_is_as_good:
+        return line + (": these settings alone give the same" if advice.is_better else ": these settings are better")
+    return line + ": not as cheap as this order" if advice.is_better else line + ": nothing to gain"
+
+
+def sql_of(advice: Advice) -> str:
+    """The statement ready to paste."""
+    settings = "\n".join(f"SET LOCAL {name} = {value};" for name, value in AS_WRITTEN.items())
+    return f"BEGIN;\n{settings}\n{advice.order.sql};\nCOMMIT;"
+
+
+def hint_of(advice: Advice) -> str:
+    """The hint with the sides that PostgreSQL chooses for the order."""
+    chosen = advice.order.explained.plan
+    whole = chosen is not None and chosen.aliases() == advice.order.plan.aliases()
+    return leading(chosen if whole else advice.order.plan)
+
+
+def _hint(advice: Advice) -> str:
+    limit = len(advice.query.relations)
+    return (
+        f"-- or by pg_hint_plan, before the statement as it was, with both collapse limits at {limit} or more:\n"
+        f"{hint_of(advice)}"
+    )
+
+
+def join_rows(advice: Advice) -> list[tuple[str, int, int | None, int | None]]:
+    """For each join of the order its relations, and its rows by dpe, by PostgreSQL, and as they were."""
+    explained = advice.order.explained.plan
+    theirs = {plan.aliases(): plan for plan in explained.joins()} if explained else {}
+    found = []
+    for join in advice.order.plan.joins():
+        other = theirs.get(join.aliases())
+        names = " ".join(alias for alias in advice.query.relations if alias in join.aliases())
+        found.append((names, join.rows, other.rows if other else None, other.actual if other else None))
+    return found
+
+
+def table_of_joins(advice: Advice) -> list[str]:
+    """The lines of the table of each join's rows."""
+    rows = join_rows(advice)
+    with_actual = any(actual is not None for *_, actual in rows)
+    lines = [("dpe", "PostgreSQL", *(("actual",) if with_actual else ()), "rows of the join of")]
+    for names, own, theirs, actual in rows:
+        numbers = [own, theirs] + ([actual] if with_actual else [])
+        lines.append((*("-" if number is None else str(number) for number in numbers), names))
+    widths = [max(len(line[place]) for line in lines) for place in range(len(lines[0]) - 1)]
+    return ["  ".join([*(cell.rjust(width) for cell, width in zip(line, widths)), line[-1]]) for line in lines]
