@@ -92,7 +92,7 @@ class Database:
         finally:
             connection.close()
 
-    def rows(self, query: str, values: tuple[Any, ...] = ()) -> list[tuple[Any, ...]]:
+    def rows(self, query: str, values: tuple[Any, ...] | dict[str, Any] = ()) -> list[tuple[Any, ...]]:
         """The rows of a query."""
         return self._connection.execute(query, values or None).fetchall()
 

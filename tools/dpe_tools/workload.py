@@ -32,9 +32,15 @@ def _table_name(query: Query, alias: str) -> str:
     relation = query.relations[alias]
     name = f"{relation.table.schema}.{relation.table.name}" + ("" if relation.node.inh else " only")
     for text in (alias, name):
-        if any(character < " " or character == "\x7f" for character in text) or len(text.encode()) > NAME_BYTES_MAX:
+        if not is_name(text):
             raise Refused(f"the name {text!r} has a control character or more than {NAME_BYTES_MAX} bytes")
     return name
+
+
+def is_name(text: str) -> bool:
+    """Whether a workload may have the name."""
+    plain = all(character >= " " and character != "\x7f" for character in text)
+    return plain and 0 < len(text.encode()) <= NAME_BYTES_MAX
 
 
 def _relation(alias: str, table: str, estimates: Estimates) -> dict[str, Any]:
