@@ -8,7 +8,7 @@ from typing import Any
 from .database import Database
 from .estimates import estimate
 from .graphs import GRAPHS_MAX, join_graphs
-from .planner import cheapest, plan_workload
+from .planner import plan_workload
 from .plans import Plan, plan_of_explain, plan_of_report
 from .query import Query, read_query
 from .refusals import Refused
@@ -23,6 +23,12 @@ BETTER_BY = 0.01
 """The part of the default's cost by which an order must be cheaper."""
 
 AS_WRITTEN = {"join_collapse_limit": "1"}
+ORDERS_MAX = 4
+"""How many orders of a model the server judges: that of the join graph as written, and the cheapest of the others."""
+
+PAIRS_MAX = 20_000_000
+"""How many pairs of connected sets dpe may go through for one model, where one join graph alone hasn't more."""
+
 RUNS = 2
 """How often a statement is run for its time, of which the least counts."""
 
@@ -31,7 +37,7 @@ RUNS = 2
 class Options:
     """What a user may choose."""
 
-    model: str = "ops"
+    model: str = "best"
     analyze: bool = False
     full_search_seconds: float = 1.0
 
@@ -112,10 +118,28 @@ class Adviser:
         self.graphs = join_graphs(self.query, database.foreign_keys(oids))
         self.estimates = estimate(self.query, self.graphs, database)
         self.workload = workload_of(self.query, self.graphs, self.estimates)
+        self.left_out = 0
 
     def order(self, model: str) -> Order:
-        """The cheapest order by a model."""
-        entry = cheapest(plan_workload(self.workload, model))
+        """The best order of a model: of the cheapest of each join graph, the one that the server finds cheapest."""
+        first, *others = self._planned(model)
+        chosen: dict[frozenset[frozenset[str]], dict[str, Any]] = {}
+        for entry in [first, *sorted(others, key=lambda entry: entry["cost"])]:
+            joined = frozenset(join.aliases() for join in plan_of_report(entry["plan"]).joins())
+            chosen.setdefault(joined, entry)
+        orders = [self._order(model, entry) for entry in list(chosen.values())[:ORDERS_MAX]]
+        return min(orders, key=lambda order: order.explained.cost)
+
+    def _planned(self, model: str) -> list[dict[str, Any]]:
+        """The report's entries of the join graph as written, and of as many others as PAIRS_MAX allows."""
+        first, *others = self.workload["queries"]
+        entries = plan_workload({**self.workload, "queries": [first]}, model)
+        allowed = PAIRS_MAX // max(1, entries[0]["pairs"])
+        self.left_out = max(0, len(others) - allowed)
+        others = others[:allowed]
+        return entries + (plan_workload({**self.workload, "queries": others}, model) if others else [])
+
+    def _order(self, model: str, entry: dict[str, Any]) -> Order:
         plan = plan_of_report(entry["plan"])
         sql = pretty(rewritten(self.query, plan))
         if self.database.result_columns(sql) != self._columns:
@@ -152,8 +176,10 @@ class Adviser:
         around = ("groupClause", "distinctClause", "sortClause", "limitCount", "havingClause", "windowClause")
         if any(getattr(self.query.outside, clause) for clause in around):
             notes.append("not costed by dpe: what comes after the joins (PostgreSQL's numbers include it)")
-        tried = len(self.graphs.graphs)
-        if not self.graphs.all_trees:
+        tried = len(self.graphs.graphs) - self.left_out
+        if self.left_out:
+            notes.append(f"implied equalities: {tried} join graphs were tried, since one alone is large")
+        elif not self.graphs.all_trees:
             notes.append(
                 f"implied equalities: more than {GRAPHS_MAX} ways to use them, so {tried} join graphs were tried:"
                 " as written and the stars"
@@ -195,9 +221,10 @@ def _full_search_line(advice: Advice) -> str:
     if advice.full is None:
         return f"full search ({limits}): not planned within {advice.full_search_seconds:g} s"
     line = f"full search ({limits}): {advice.full.cost:.0f}, planned in {advice.full.planning:.0f} ms"
-    if advice.full_is_as_good:
-        return line + (": these settings alone give the same" if advice.is_better else ": these settings are better")
-    return line + ": not as cheap as this order" if advice.is_better else line + ": nothing to gain"
+    if not advice.full_is_as_good:
+        return line + (": not as cheap as this order" if advice.is_better else ": nothing to gain")
+    same = advice.is_better and not is_cheaper(advice.full.cost, advice.order.explained.cost)
+    return line + (": these settings alone give the same" if same else ": these settings alone are better still")
 
 
 def sql_of(advice: Advice) -> str:

@@ -28,8 +28,3 @@ def plan_workload(workload: dict[str, Any], model: str) -> list[dict[str, Any]]:
     if "refusal" in entries[0]:
         raise Refused(f"dpe refuses the workload: {entries[0]['refusal']}")
     return entries
-
-
-def cheapest(entries: list[dict[str, Any]]) -> dict[str, Any]:
-    """The planned entry of least cost, the first of several."""
-    return min((entry for entry in entries if "plan" in entry), key=lambda entry: entry["cost"])
