@@ -49,8 +49,9 @@ def plan_of_report(node: dict[str, Any]) -> Plan:
 
 
 def plan_of_explain(node: dict[str, Any], aliases: frozenset[str], share: float = 1.0) -> Plan | None:
-    """The joins and scans in a plan of PostgreSQL; none where it has no scan. Below a Gather a node that is shared by
-    workers has the rows of one of them, and `share` is how many these are."""
+    """The joins and scans in a plan of PostgreSQL; none where it has no scan. Rows are those of one
+    execution of a node. Below a Gather a node that is shared by workers has the rows of one of them, and `share` is how
+    many these are."""
     if node["Node Type"] in ("Gather", "Gather Merge"):
         workers = node["Workers Planned"]
         share = workers + max(0.0, 1 - 0.3 * workers)
@@ -59,8 +60,9 @@ def plan_of_explain(node: dict[str, Any], aliases: frozenset[str], share: float 
     alias = _known_alias(node, aliases) or _one_alias(node, children)
     if alias is None and not (node["Node Type"] in JOINS and len(children) == 2):
         return children[0] if children else None
-    rows = round(node["Plan Rows"] * (share if _is_shared(node) else 1))
-    actual = round(node["Actual Rows"] * node["Actual Loops"]) if "Actual Rows" in node else None
+    shared = _is_shared(node)
+    rows = round(node["Plan Rows"] * (share if shared else 1))
+    actual = round(node["Actual Rows"] * (node["Actual Loops"] if shared else 1)) if "Actual Rows" in node else None
     return Plan(node["Node Type"], rows, node["Total Cost"], alias, () if alias else children, actual)
 
 

@@ -2,6 +2,10 @@
 
 from __future__ import annotations
 
+from pathlib import Path
+
+EXAMPLE = Path(__file__).resolve().parents[2] / "example.sql"
+
 TRADE = """
 CREATE TABLE region (r_id int PRIMARY KEY, r_name text);
 CREATE TABLE nation (n_id int PRIMARY KEY, n_region int REFERENCES region, n_name text);
@@ -17,9 +21,9 @@ CREATE TABLE clerk (k_id int PRIMARY KEY, k_office int);
 CREATE TABLE office (f_id int PRIMARY KEY, f_nation int REFERENCES nation);
 INSERT INTO region SELECT i, 'region ' || i FROM generate_series(1, 5) AS i;
 INSERT INTO nation SELECT i, 1 + i % 5, 'nation ' || i FROM generate_series(1, 25) AS i;
-INSERT INTO supplier SELECT i, 1 + i % 25, i % 10 FROM generate_series(1, 500) AS i;
-INSERT INTO customer SELECT i, 1 + i % 25, i % 5 FROM generate_series(1, 7500) AS i;
-INSERT INTO part SELECT i, i % 25, i % 50 FROM generate_series(1, 10000) AS i;
+INSERT INTO supplier SELECT i, 1 + i * 7919 / 13 % 25, i % 10 FROM generate_series(1, 500) AS i;
+INSERT INTO customer SELECT i, 1 + i * 7919 / 17 % 25, i % 5 FROM generate_series(1, 7500) AS i;
+INSERT INTO part SELECT i, i * 7919 / 11 % 25, i * 6007 / 19 % 50 FROM generate_series(1, 10000) AS i;
 INSERT INTO supply SELECT p, 1 + (p + 125 * s) % 500, p % 97 FROM generate_series(1, 10000) AS p, generate_series(0, 3) AS s;
 INSERT INTO orders SELECT i, 1 + (i * 7919) % 7500, i % 2400, 1 + i % 1000 FROM generate_series(1, 75000) AS i;
 INSERT INTO line SELECT o, p, 1 + (p + 125 * (o % 4)) % 500, o % 50, (o * 3 + n) % 2500
@@ -129,11 +133,13 @@ _TRADE_8 = [
     ("customer", "c_id = o_customer"), ("nation n1", "n1.n_id = c_nation"), ("nation n2", "n2.n_id = s_nation"),
     ("region", "r_id = n1.n_region"),
 ]
-_TRADE_11 = [
-    ("customer", "c_id = o_customer"), ("nation n1", "n1.n_id = c_nation"), ("region r1", "r1.r_id = n1.n_region"),
-    ("clerk", "k_id = o_clerk"), ("office", "f_id = k_office"), ("nation n3", "n3.n_id = f_nation"),
-    ("line", "l_order = o_id"), ("supply", "u_part = l_part AND u_supplier = l_supplier"), ("part", "p_id = u_part"),
-    ("supplier", "s_id = u_supplier"), ("nation n2", "n2.n_id = s_nation"), ("region r2", "r2.r_id = n2.n_region"),
+_TRADE_12 = [
+    "orders", "customer", "nation n1", "region r1", "clerk", "office", "line", "supply", "part", "supplier", "nation n2", "region r2",
+]
+_TRADE_12_JOINED = [
+    "c_id = o_customer", "n1.n_id = c_nation", "r1.r_id = n1.n_region", "k_id = o_clerk", "f_id = k_office", "l_order = o_id",
+    "u_part = l_part", "u_supplier = l_supplier", "p_id = u_part", "s_id = u_supplier", "n2.n_id = s_nation",
+    "r2.r_id = n2.n_region",
 ]
 _ALL = list(DIMENSIONS)
 
@@ -144,8 +150,8 @@ QUERIES: dict[str, str] = {
         ["n_name = 'nation 7'", "o_day < 400"],
     ),
     "trade, 8, joins": _joins("orders", _TRADE_8, ["r_name = 'region 2'", "p_brand = 3", "o_day < 700"]),
-    "trade, 13, joins": _joins("orders", _TRADE_11, ["p_brand = 3", "p_size = 28", "r2.r_name = 'region 2'"]),
-    "trade, 13, list": _written("orders", _TRADE_11, ["p_brand = 3", "p_size = 28", "r2.r_name = 'region 2'"], "count(*)", True),
+    "trade, 12, joins": EXAMPLE.read_text(),
+    "trade, 12, list": _comma(_TRADE_12, _TRADE_12_JOINED, ["p_brand = 3", "p_size = 28", "r2.r_name = 'region 2'"]),
     "snowflake, 10, joins": _snowflake(
         ["day", "month", "year", "buyer", "household", "segment", "product", "category", "department"],
         ["department.kind = 3", "segment.kind = 4", "year.kind = 2"], False),
