@@ -128,7 +128,8 @@ def _edge_label(join: dict[str, Any], tables: dict[str, dict[str, Any]]) -> str:
     if join.get("selectivity"):
         part, whole = join["selectivity"]
     else:
-        part, whole = 1, max(1, *(_distinct(tables.get(join[side], {}), join.get(f"{side}_column")) for side in ("left", "right")))
+        sides = ("left", "right")
+        part, whole = 1, max(_distinct(tables.get(join[side], {}), join.get(f"{side}_column")) for side in sides)
     if part == whole:
         return "1"
     return f"1/{short(whole / part)}" if part else f"{part}/{whole}"
