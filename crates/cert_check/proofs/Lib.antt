@@ -1,0 +1,4 @@
+mod CertificateParts
+mod KnownSides
+mod CertificateLaws
+mod Splits
