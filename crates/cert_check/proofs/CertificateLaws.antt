@@ -1,15 +1,19 @@
 -- What a certificate shows, and that every plan has one.
-use Rattle.std.proofs.Common.{◌≡◌, ℕ, ◌≤◌, inl, inr, arith, refl, subst, List}
+use Rattle.std.proofs.Common.{◌≡◌, ◌<◌, ◌∙◌, ℕ, ◌≤◌, inl, inr, arith, refl, sym, ap, subst, List}
+use Rattle.std.proofs.lemmas.Bool.{cases_lt}
+use Rattle.dpe_base.specs.declared.TheConstants.{COST_LIMIT}
 use Rattle.dpe_base.specs.Queries.{JoinQuery, relations, IsQuery}
 use Rattle.dpe_base.specs.Sets.{Disjoint, single, full}
 use Rattle.join_graph.specs.Graphs.{Connected, Crossed, pair_of, graph_of}
 use Rattle.join_graph.proofs.GraphLaws.{crossed_back, connected_single, pair_either}
+use Rattle.cost_model.specs.Words.{word_cost}
 use Rattle.join_tree.specs.Laws.{IsNoWorse}
 use Rattle.join_tree.specs.Trees.{JoinTree, leaf, join, Legal, Plan, EverySubtree, set_of, cost}
+use Rattle.join_tree.proofs.BestLaws.{HasBest, best_cost, word_reads}
 use Rattle.join_tree.proofs.LeastPlan.{plans_are_least}
 use Rattle.join_tree.proofs.TreeLaws.{legal_connected}
 use Rattle.cert_check.specs.Certificates.{IsCertificate, JoinBounded, bound_of}
-use Rattle.cert_check.specs.Laws.{AreLeastCosts, CertificatesConvince, BoundsAreLowerBounds, PlansAreCertified}
+use Rattle.cert_check.specs.Laws.{AreLeastCosts, CertificatesConvince, BoundsAreLowerBounds, PlansAreCertified, BestWordsHaveLeastCosts}
 
 -- no tree undercuts the bound of its set
 bound_below : (kind : ℕ) (q : JoinQuery) (t : JoinTree) (bounds : List ℕ) → IsQuery q → IsCertificate kind q t bounds → (u : JoinTree) → Legal kind (graph_of q) u → bound_of bounds (set_of u) ≤ cost kind q u
@@ -78,4 +82,24 @@ plans_are_certified kind q t bounds ok least p =
       legal = p.legal;
       over = p.over;
       least = omega (arith, (least.1 all whole).some.3, plan_least kind q all t (least.1 all whole).some.0 ok p (least.1 all whole).some.1 (least.1 all whole).some.2);
+    }
+
+-- ---- the least costs from the best words
+
+best_least : (kind : ℕ) (q : JoinQuery) (t u : JoinTree) → IsQuery q → Legal kind (graph_of q) t → HasBest kind q t → cost kind q t < COST_LIMIT → Legal kind (graph_of q) u → set_of u ≡ set_of t → cost kind q t ≤ cost kind q u
+best_least kind q t u ok l best below m over =
+    elim (cases_lt (cost kind q u) COST_LIMIT) [
+      | inl c ↦ best_cost kind q t u ok l best m over c
+      | inr c ↦ omega (arith, c, below)
+    ]
+
+pub best_words_have_least_costs : BestWordsHaveLeastCosts
+best_words_have_least_costs kind q s w ok best =
+    let t : JoinTree = best.some.0 in
+    let over : set_of t ≡ s = best.some.2 in
+    let of_tree : HasBest kind q t = rw (over, best.some.3.is) best in
+    let costs : cost kind q t ≡ word_cost w = sym (word_reads kind q t ok best.some.1 best.some.3.below) ∙ ap word_cost best.some.3.is in
+    record {
+      some = (t, best.some.1, over, costs);
+      least = λ u l e. rw (← costs) (best_least kind q t u ok best.some.1 of_tree best.some.3.below l (e ∙ sym over));
     }

@@ -3,7 +3,8 @@ use Rattle.std.specs.Prelude.{◌≡◌, ℕ, ◌^◌, ◌≤◌, List, length}
 use Rattle.dpe_base.specs.Queries.{JoinQuery, relations, IsQuery}
 use Rattle.dpe_base.specs.Sets.{full}
 use Rattle.join_graph.specs.Graphs.{Connected, graph_of}
-use Rattle.join_tree.specs.Trees.{JoinTree, Legal, Plan, set_of, cost}
+use Rattle.cost_model.specs.Words.{word_cost}
+use Rattle.join_tree.specs.Trees.{JoinTree, Legal, Best, Plan, set_of, cost}
 use Rattle.cert_check.specs.Certificates.{IsCertificate, bound_of}
 
 -- no legal tree over s costs less than c
@@ -38,3 +39,8 @@ PlansAreCertified =
     (kind : ℕ) (q : JoinQuery) (t : JoinTree) (bounds : List ℕ) → IsQuery q → AreLeastCosts kind q bounds
     → Plan kind q (full (relations q)) t
     → IsCertificate kind q t bounds
+
+-- the cost in the best word of a set is the least cost over it
+abbrev pub BestWordsHaveLeastCosts : Type 0
+BestWordsHaveLeastCosts =
+    (kind : ℕ) (q : JoinQuery) (s w : ℕ) → IsQuery q → Best kind q s w → IsLeastCost kind q s (word_cost w)

@@ -13,9 +13,9 @@ IsKnownRows q s known =
     (Connected (graph_of q) s × (known ≡ rows q s)) ⊎ ((Connected (graph_of q) s → ⊥) × (known ≡ 0))
 
 -- the set is connected, and these are its rows and its bound
-pub record IsSide (q : JoinQuery) (bounds : List ℕ) (s rows_known bound : ℕ) : Type 0 where
+pub record IsSide (q : JoinQuery) (bounds : List ℕ) (s known bound : ℕ) : Type 0 where
   pub connected : Connected (graph_of q) s
-  pub rows_are : rows_known ≡ rows q s
+  pub rows_are : known ≡ rows q s
   pub bound_is : bound ≡ bound_of bounds s
 
 -- the table has the rows of the query's connected sets below its length
