@@ -11,13 +11,13 @@ use Rattle.cert_check.specs.Certificates.{IsCertificate, PairBounded, bound_of}
 use Rattle.cert_check.specs.Steps.{IsBoundedTree}
 
 -- of a legal tree over all relations the test of its cost decides
-pub bounded_by_test : (kind : ℕ) (q : JoinQuery) (t : JoinTree) (bounds : List ℕ) (known place : ℕ) → Legal kind (graph_of q) t → set_of t ≡ full (relations q) → known ≡ cost kind q t → place ≡ full (relations q) → IsTrue (leb known (slice_index bounds place)) ↔ IsBoundedTree kind q t bounds
-bounded_by_test kind q t bounds known place legal over k p =
+pub bounded_by_test : (model : ℕ) (q : JoinQuery) (t : JoinTree) (bounds : List ℕ) (known place : ℕ) → Legal model (graph_of q) t → set_of t ≡ full (relations q) → known ≡ cost model q t → place ≡ full (relations q) → IsTrue (leb known (slice_index bounds place)) ↔ IsBoundedTree model q t bounds
+bounded_by_test model q t bounds known place legal over k p =
     (λ h. (legal, over, rw (← k, ← p) (leb-true known (slice_index bounds place) h)), λ h. le-leb known (slice_index bounds place) (rw (k, p) h.2))
 
 -- the pairs are tested last
-pub by_pairs : (kind : ℕ) (q : JoinQuery) (t : JoinTree) (bounds : List ℕ) (passed : Bool) → length bounds ≡ 2 ^ relations q → IsBoundedTree kind q t bounds → ((r : ℕ) → r < relations q → bound_of bounds (single r) ≡ 0) → (IsTrue passed ↔ ((p : Pair) → Pairs (graph_of q) p → PairBounded kind q bounds p)) → IsTrue passed ↔ IsCertificate kind q t bounds
-by_pairs kind q t bounds passed sized tree alone test = (
+pub by_pairs : (model : ℕ) (q : JoinQuery) (t : JoinTree) (bounds : List ℕ) (passed : Bool) → length bounds ≡ 2 ^ relations q → IsBoundedTree model q t bounds → ((r : ℕ) → r < relations q → bound_of bounds (single r) ≡ 0) → (IsTrue passed ↔ ((p : Pair) → Pairs (graph_of q) p → PairBounded model q bounds p)) → IsTrue passed ↔ IsCertificate model q t bounds
+by_pairs model q t bounds passed sized tree alone test = (
   λ h. record { sized = sized; alone = alone; bounded = test.0 h; legal = tree.0; over = tree.1; least = tree.2 },
   λ cert. test.1 cert.bounded,
 )

@@ -43,48 +43,48 @@ split_pair g s r b c least part ca cb =
     at k e = subst (Has (minus s b)) e (minus_has s b r least.0 (λ h. minus_right s (single r) r (part r h) (single_has r)))
 
 -- the pairs with the union s and a second side up to this one are bounded
-pub record IsTried (kind : ℕ) (q : JoinQuery) (bounds : List ℕ) (s r second : ℕ) : Type 0 where
+pub record IsTried (model : ℕ) (q : JoinQuery) (bounds : List ℕ) (s r second : ℕ) : Type 0 where
   pub part : Within second (minus s (single r))
-  pub tried : (p : Pair) → Pairs (graph_of q) p → union p.a p.b ≡ s → p.b ≤ second → PairBounded kind q bounds p
+  pub tried : (p : Pair) → Pairs (graph_of q) p → union p.a p.b ≡ s → p.b ≤ second → PairBounded model q bounds p
 
 -- 0 is the first second side
-pub none_tried : (kind : ℕ) (q : JoinQuery) (bounds : List ℕ) (s r second : ℕ) → second ≡ 0 → IsTried kind q bounds s r second
-none_tried kind q bounds s r second e =
+pub none_tried : (model : ℕ) (q : JoinQuery) (bounds : List ℕ) (s r second : ℕ) → second ≡ 0 → IsTried model q bounds s r second
+none_tried model q bounds s r second e =
     record {
       part = λ k h. grind (arith, sets, member-same e k);
       tried = λ p pair over le. absurd (pair.second.some (omega (arith, le, e)));
     }
 
 -- a pair is told by its union and its second side
-same_split : (kind : ℕ) (q : JoinQuery) (bounds : List ℕ) (s next a b : ℕ) → next ≡ b → a ≡ minus s b → (Connected (graph_of q) (minus s next) → Connected (graph_of q) next → PairBounded kind q bounds (pair_of (minus s next) next)) → Connected (graph_of q) a → Connected (graph_of q) b → PairBounded kind q bounds (pair_of a b)
-same_split kind q bounds s next a b e f h =
-    subst (λ x. Connected (graph_of q) x → Connected (graph_of q) b → PairBounded kind q bounds (pair_of x b)) (sym f)
-    (subst (λ x. Connected (graph_of q) (minus s x) → Connected (graph_of q) x → PairBounded kind q bounds (pair_of (minus s x) x)) e h)
+same_split : (model : ℕ) (q : JoinQuery) (bounds : List ℕ) (s next a b : ℕ) → next ≡ b → a ≡ minus s b → (Connected (graph_of q) (minus s next) → Connected (graph_of q) next → PairBounded model q bounds (pair_of (minus s next) next)) → Connected (graph_of q) a → Connected (graph_of q) b → PairBounded model q bounds (pair_of a b)
+same_split model q bounds s next a b e f h =
+    subst (λ x. Connected (graph_of q) x → Connected (graph_of q) b → PairBounded model q bounds (pair_of x b)) (sym f)
+    (subst (λ x. Connected (graph_of q) (minus s x) → Connected (graph_of q) x → PairBounded model q bounds (pair_of (minus s x) x)) e h)
 
 -- one more second side
-pub one_more_tried : (kind : ℕ) (q : JoinQuery) (bounds : List ℕ) (s r second next : ℕ) → IsLeast s r → IsTried kind q bounds s r second → IsNextSubset second (minus s (single r)) next → (Connected (graph_of q) (minus s next) → Connected (graph_of q) next → PairBounded kind q bounds (pair_of (minus s next) next)) → IsTried kind q bounds s r next
-one_more_tried kind q bounds s r second next least before step h =
+pub one_more_tried : (model : ℕ) (q : JoinQuery) (bounds : List ℕ) (s r second next : ℕ) → IsLeast s r → IsTried model q bounds s r second → IsNextSubset second (minus s (single r)) next → (Connected (graph_of q) (minus s next) → Connected (graph_of q) next → PairBounded model q bounds (pair_of (minus s next) next)) → IsTried model q bounds s r next
+one_more_tried model q bounds s r second next least before step h =
     record {
       part = step.within;
       tried = λ p pair over le.
           elim (cases_lt second p.b) [
             | inl above ↦
-                same_split kind q bounds s next p.a p.b (omega (arith, le, step.next p.b (second_has (graph_of q) s r p least pair over) above)) (first_is (graph_of q) s p pair over) h pair.first pair.second
+                same_split model q bounds s next p.a p.b (omega (arith, le, step.next p.b (second_has (graph_of q) s r p least pair over) above)) (first_is (graph_of q) s p pair over) h pair.first pair.second
             | inr below ↦ before.tried p pair over below
           ];
     }
 
 -- after the greatest second side
-pub all_tried : (kind : ℕ) (q : JoinQuery) (bounds : List ℕ) (s r second : ℕ) → IsLeast s r → IsTried kind q bounds s r second → second ≡ minus s (single r) → (p : Pair) → Pairs (graph_of q) p → union p.a p.b ≡ s → PairBounded kind q bounds p
-all_tried kind q bounds s r second least before e p pair over =
+pub all_tried : (model : ℕ) (q : JoinQuery) (bounds : List ℕ) (s r second : ℕ) → IsLeast s r → IsTried model q bounds s r second → second ≡ minus s (single r) → (p : Pair) → Pairs (graph_of q) p → union p.a p.b ≡ s → PairBounded model q bounds p
+all_tried model q bounds s r second least before e p pair over =
     before.tried p pair over (omega (arith, e, within_le p.b (minus s (single r)) (second_has (graph_of q) s r p least pair over)))
 
 -- a second side that fails is that of a pair
-pub one_fails : (kind : ℕ) (q : JoinQuery) (bounds : List ℕ) (s r second next : ℕ) → Connected (graph_of q) s → IsLeast s r → IsNextSubset second (minus s (single r)) next → ((Connected (graph_of q) (minus s next) → Connected (graph_of q) next → PairBounded kind q bounds (pair_of (minus s next) next)) → ⊥) → ((p : Pair) → Pairs (graph_of q) p → union p.a p.b ≡ s → PairBounded kind q bounds p) → ⊥
-one_fails kind q bounds s r second next c least step fails all =
+pub one_fails : (model : ℕ) (q : JoinQuery) (bounds : List ℕ) (s r second next : ℕ) → Connected (graph_of q) s → IsLeast s r → IsNextSubset second (minus s (single r)) next → ((Connected (graph_of q) (minus s next) → Connected (graph_of q) next → PairBounded model q bounds (pair_of (minus s next) next)) → ⊥) → ((p : Pair) → Pairs (graph_of q) p → union p.a p.b ≡ s → PairBounded model q bounds p) → ⊥
+one_fails model q bounds s r second next c least step fails all =
     fails (λ ca cb. all (pair_of (minus s next) next) (split_pair (graph_of q) s r next c least step.within ca cb) (split_whole s r next step.within))
 
 -- no pair makes up a set that is not connected
-pub no_union : (kind : ℕ) (q : JoinQuery) (bounds : List ℕ) (s : ℕ) → (Connected (graph_of q) s → ⊥) → (p : Pair) → Pairs (graph_of q) p → union p.a p.b ≡ s → PairBounded kind q bounds p
-no_union kind q bounds s none p pair over =
+pub no_union : (model : ℕ) (q : JoinQuery) (bounds : List ℕ) (s : ℕ) → (Connected (graph_of q) s → ⊥) → (p : Pair) → Pairs (graph_of q) p → union p.a p.b ≡ s → PairBounded model q bounds p
+no_union model q bounds s none p pair over =
     absurd (none (subst (Connected (graph_of q)) over (connected_union (graph_of q) p.a p.b pair.first pair.second pair.crossed)))

@@ -25,7 +25,7 @@ AreKnownRows q table =
 
 -- the tree is legal, over all relations, and costs no more than their bound
 abbrev pub IsBoundedTree : ℕ → JoinQuery → JoinTree → List ℕ → Type 0
-IsBoundedTree kind q t bounds =
-    Legal kind (graph_of q) t
+IsBoundedTree model q t bounds =
+    Legal model (graph_of q) t
     × (set_of t ≡ full (relations q))
-    × (cost kind q t ≤ bound_of bounds (full (relations q)))
+    × (cost model q t ≤ bound_of bounds (full (relations q)))
