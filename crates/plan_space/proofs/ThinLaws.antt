@@ -1,0 +1,199 @@
+-- Thin lists are ordered, and make the trees of a class.
+use Rattle.std.proofs.Common.{◌≡◌, ℕ, true, nat_le, ◌<◌, ◌≤◌, ◌⊎◌, ◌↔◌, inl, inr, arith, refl, sym, ◌∙◌, ap, subst, List, Contains, get_or, length}
+use Rattle.std.specs.List.{AllPairs}
+use Rattle.std.proofs.lemmas.Bool.{cases_order, or_cases, or_right, leb-true, le-leb}
+use Rattle.std.proofs.lemmas.List.{get_or_default}
+use Rattle.std.proofs.lemmas.List.Kept.{AllPairs-filter}
+use Rattle.dpe_base.specs.declared.pair.Pair.{Pair}
+use Rattle.dpe_base.specs.Queries.{JoinQuery, IsQuery}
+use Rattle.dpe_base.specs.Sets.{single, size}
+use Rattle.dpe_base.proofs.SetLaws.{union_comm}
+use Rattle.dpe_base.proofs.SizeLaws.{size-single}
+use Rattle.join_graph.specs.Graphs.{JoinGraph, IsGraph, Connected, Pairs, pair_of, graph_of}
+use Rattle.join_graph.specs.PairLists.{SideBuilt}
+use Rattle.join_graph.proofs.GraphLaws.{Extended, connected_extended, connected_single, pair_either}
+use Rattle.join_tree.specs.Trees.{JoinTree, leaf, join, set_of, Legal, Trees, Least}
+use Rattle.join_tree.proofs.TreeLaws.{legal_connected, join_size, made_legal}
+use Rattle.pair_stream.specs.Orders.{StandsAt, BuildsSide, Ordered, Complete}
+use Rattle.pair_stream.proofs.Lists.{contains_filter, contains_from_filter, passes_from_filter}
+use Rattle.pair_stream.proofs.OrderLaws.{MayPrecede, builds_itself}
+use Rattle.plan_space.specs.declared.class.Class.{Class}
+use Rattle.plan_space.specs.declared.class.Class.TheVariants.{Narrow, ZigZag}
+use Rattle.plan_space.specs.Classes.{IsLeaf, SidesIn, JoinsIn, InClass, LeastIn}
+use Rattle.plan_space.specs.Laws.{ThinListsAreOrdered, ThinListsMakeTheClasses, ThinListsGiveLeastWords}
+use Rattle.plan_space.specs.Thin.{is_thin, thin}
+
+-- ---- members
+
+abbrev SmallSide : ℕ → ℕ → ℕ → Type 0
+SmallSide width a b = (size a ≤ width) ⊎ (size b ≤ width)
+
+thin_small : (width : ℕ) (p : Pair) → is_thin width p ≡ true → SmallSide width p.a p.b
+thin_small width p t =
+    elim (or_cases (nat_le (size p.a) width) (nat_le (size p.b) width) t) [
+      | inl x ↦ inl (leb-true (size p.a) width x)
+      | inr x ↦ inr (leb-true (size p.b) width x)
+    ]
+
+small_thin : (width : ℕ) (p : Pair) → SmallSide width p.a p.b → is_thin width p ≡ true
+small_thin width p h =
+    elim h [
+      | inl x ↦ rw (le-leb (size p.a) width x) refl
+      | inr x ↦ or_right (nat_le (size p.a) width) (nat_le (size p.b) width) (le-leb (size p.b) width x)
+    ]
+
+in_thin : (width : ℕ) (pairs : List Pair) (p : Pair) → Contains pairs p → SmallSide width p.a p.b → Contains (thin width pairs) p
+unfolding thin
+in_thin width pairs p c h = contains_filter (is_thin width) pairs p c (small_thin width p h)
+
+of_thin : (width : ℕ) (pairs : List Pair) (p : Pair) → Contains (thin width pairs) p → Contains pairs p × SmallSide width p.a p.b
+unfolding thin
+of_thin width pairs p c = (contains_from_filter (is_thin width) pairs p c, thin_small width p (passes_from_filter (is_thin width) pairs p c))
+
+-- ---- order
+
+may_precede : (pairs : List Pair) → Ordered pairs → AllPairs MayPrecede pairs
+may_precede pairs o j k d l in_list = (o.once j k d l in_list, no)
+  where
+    no : BuildsSide (get_or pairs k d) (get_or pairs j d) → ⊥
+    no b =
+        let first : j < length pairs = omega (arith, l, in_list) in
+        let turned : k < j =
+        o.before k j (get_or pairs k d) (get_or pairs j d) (in_list, get_or_default pairs k (get_or pairs k d) d in_list) (first, get_or_default pairs j (get_or pairs j d) d first) b in
+        omega (arith, l, turned)
+
+thin_may_precede : (width : ℕ) (pairs : List Pair) → Ordered pairs → AllPairs MayPrecede (thin width pairs)
+unfolding thin
+thin_may_precede width pairs o = AllPairs-filter MayPrecede (is_thin width) pairs (may_precede pairs o)
+
+-- the place of a pair in a list tells which stands first
+before_from : (g : JoinGraph) (pairs : List Pair) → ((p : Pair) → Contains pairs p → Pairs g p) → AllPairs MayPrecede pairs → (j k : ℕ) (p q : Pair) → StandsAt pairs j p → StandsAt pairs k q → BuildsSide p q → j < k
+before_from g pairs within order j k p q at_j at_k b =
+    elim (cases_order j k) [
+      | inl e ↦ absurd (builds_itself g p (within p (j, at_j.0, at_j.1)) (subst (BuildsSide p) (sym (same e)) b))
+      | inr o ↦ elim o [
+        | inl l ↦ l
+        | inr l ↦ absurd (later l b)
+      ]
+    ]
+  where
+    same : j ≡ k → p ≡ q
+    same e = sym at_j.1 ∙ get_or_default pairs j p q at_j.0 ∙ ap (λ i. get_or pairs i q) e ∙ at_k.1
+
+    later : k < j → BuildsSide p q → ⊥
+    later l =
+        let h : MayPrecede (get_or pairs k q) (get_or pairs j q) = order k j q l at_j.0 in
+        let m : MayPrecede q (get_or pairs j q) = subst (λ x. MayPrecede x (get_or pairs j q)) at_k.1 h in
+        (subst (MayPrecede q) (get_or_default pairs j q p at_j.0 ∙ at_j.1) m).1
+
+-- a connected set of two relations or more is made of one without a relation, and of this
+thin_built : (g : JoinGraph) (width : ℕ) (pairs : List Pair) → IsGraph g → 1 ≤ width → Complete g pairs → (s : ℕ) → Connected g s → SideBuilt (thin width pairs) s
+thin_built g width pairs ok some all s c many =
+    let e : Extended g s = connected_extended g s c many in
+    let one : size (single e.last) ≤ width = omega (arith, size-single e.last, some) in
+    elim (pair_either g e.part (single e.last) ok.few e.connected (connected_single g e.last e.known) e.apart e.crossed) [
+      | inl p ↦ (pair_of e.part (single e.last), in_thin width pairs _ ((all.members _).1 p) (inr one), e.whole)
+      | inr p ↦ (pair_of (single e.last) e.part, in_thin width pairs _ ((all.members _).1 p) (inl one), union_comm (single e.last) e.part ∙ e.whole)
+    ]
+
+pub thin_lists_are_ordered : ThinListsAreOrdered
+thin_lists_are_ordered g width pairs ok some all order = (
+  record {
+    once = λ j k d l in_list. (thin_may_precede width pairs order j k d l in_list).0;
+    before = before_from g (thin width pairs) within (thin_may_precede width pairs order);
+    sides = sides;
+  },
+  record { within = within; sides = sides },
+)
+  where
+    within : (p : Pair) → Contains (thin width pairs) p → Pairs g p
+    within p c = (all.members p).0 (of_thin width pairs p c).0
+
+    sides : (p : Pair) → Contains (thin width pairs) p → SideBuilt (thin width pairs) p.a × SideBuilt (thin width pairs) p.b
+    sides p c = (thin_built g width pairs ok some all p.a (within p c).first, thin_built g width pairs ok some all p.b (within p c).second)
+
+-- ---- trees
+
+-- a legal tree over one relation is a leaf
+leaf_one : (t : JoinTree) → IsLeaf t → size (set_of t) ≤ 1
+leaf_one (leaf r) l = omega (arith, size-single r)
+leaf_one (join op a b) l = absurd l
+
+one_leaf : (kind : ℕ) (g : JoinGraph) (t : JoinTree) → Legal kind g t → size (set_of t) ≤ 1 → IsLeaf t
+one_leaf kind g (leaf r) l one = tt
+one_leaf kind g (join op a b) l one = absurd (omega (arith, join_size kind g op a b l, one))
+
+-- the class asks of each join for a side of so many relations at most
+abbrev IsOfWidth : Class → ℕ → Type 0
+IsOfWidth c width =
+    (kind : ℕ) (g : JoinGraph) (l r : JoinTree) → Legal kind g l → Legal kind g r → SidesIn c l r ↔ SmallSide width (set_of l) (set_of r)
+
+narrow_of_two : IsOfWidth Narrow 2
+narrow_of_two kind g l r m n = (λ h. h, λ h. h)
+
+zig_zag_of_one : IsOfWidth ZigZag 1
+zig_zag_of_one kind g l r m n = (
+  λ h. elim h [ inl x ↦ inl (leaf_one l x) | inr x ↦ inr (leaf_one r x) ],
+  λ h. elim h [ inl x ↦ inl (one_leaf kind g l m x) | inr x ↦ inr (one_leaf kind g r n x) ],
+)
+
+module _ (c : Class) (width kind : ℕ) (q : JoinQuery) (pairs : List Pair) (of_width : IsOfWidth c width) (ok : IsQuery q) (all : Complete (graph_of q) pairs) where
+  thin_within : (p : Pair) → Contains (thin width pairs) p → Pairs (graph_of q) p
+  thin_within p h = (all.members p).0 (of_thin width pairs p h).0
+
+  small_of : (a b : ℕ) → Contains (thin width pairs) (pair_of a b) ⊎ Contains (thin width pairs) (pair_of b a) → SmallSide width a b
+  small_of a b h =
+      elim h [
+        | inl x ↦ (of_thin width pairs (pair_of a b) x).1
+        | inr x ↦ elim (of_thin width pairs (pair_of b a) x).1 [ inl y ↦ inr y | inr y ↦ inl y ]
+      ]
+
+  made_joins : (t : JoinTree) → Trees kind q (thin width pairs) t → JoinsIn c t
+  made_joins (leaf r) m = tt
+  made_joins (join op l r) m = (
+    (of_width kind (graph_of q) l r (made_legal kind q (thin width pairs) thin_within l m.1) (made_legal kind q (thin width pairs) thin_within r m.2)).1 (small_of (set_of l) (set_of r) m.3),
+    made_joins l m.1,
+    made_joins r m.2,
+  )
+
+  class_made : (t : JoinTree) → Legal kind (graph_of q) t → JoinsIn c t → Trees kind q (thin width pairs) t
+  class_made (leaf r) m j = m
+  class_made (join op l r) m j = (
+    m.0,
+    class_made l m.1 j.1,
+    class_made r m.2 j.2,
+    elim (pair_either (graph_of q) (set_of l) (set_of r) ok.few (legal_connected kind (graph_of q) l m.1) (legal_connected kind (graph_of q) r m.2) m.3 m.4) [
+      | inl p ↦ inl (in_thin width pairs _ ((all.members _).1 p) ((of_width kind (graph_of q) l r m.1 m.2).0 j.0))
+      | inr p ↦ inr (in_thin width pairs _ ((all.members _).1 p) (elim ((of_width kind (graph_of q) l r m.1 m.2).0 j.0) [ inl x ↦ inr x | inr x ↦ inl x ]))
+    ],
+  )
+
+  thin_makes : (t : JoinTree) → Trees kind q (thin width pairs) t ↔ InClass c kind (graph_of q) t
+  thin_makes t = (
+    λ m. record { legal = made_legal kind q (thin width pairs) thin_within t m; joins = made_joins t m },
+    λ i. class_made t i.legal i.joins,
+  )
+
+  thin_least : (s w : ℕ) → Least kind q (thin width pairs) s w ↔ LeastIn c kind q s w
+  thin_least s w = (
+    λ x. record {
+      some = (x.made.tree, (thin_makes x.made.tree).0 x.made.made, x.made.over, x.made.word);
+      least = λ t v i e h. x.least v (record { tree = t; made = (thin_makes t).1 i; over = e; word = h });
+    },
+    λ x. record {
+      made = record { tree = x.some.0; made = (thin_makes x.some.0).1 x.some.1; over = x.some.2; word = x.some.3 };
+      least = λ v m. x.least m.tree v ((thin_makes m.tree).0 m.made) m.over m.word;
+    },
+  )
+
+pub thin_lists_make_the_classes : ThinListsMakeTheClasses
+thin_lists_make_the_classes kind q pairs t ok all = (
+  thin_makes Narrow 2 kind q pairs narrow_of_two ok all t,
+  thin_makes ZigZag 1 kind q pairs zig_zag_of_one ok all t,
+)
+
+pub thin_lists_give_least_words : ThinListsGiveLeastWords
+thin_lists_give_least_words kind q pairs s w ok all = (
+  thin_least Narrow 2 kind q pairs narrow_of_two ok all s w,
+  thin_least ZigZag 1 kind q pairs zig_zag_of_one ok all s w,
+)

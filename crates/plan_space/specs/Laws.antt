@@ -1,0 +1,31 @@
+-- The laws of the crate.
+use Rattle.std.specs.Prelude.{ℕ, ◌≤◌, ◌↔◌, List}
+use Rattle.dpe_base.specs.declared.pair.Pair.{Pair}
+use Rattle.dpe_base.specs.Queries.{JoinQuery, IsQuery}
+use Rattle.join_graph.specs.Graphs.{JoinGraph, IsGraph, graph_of}
+use Rattle.join_tree.specs.Trees.{JoinTree, Trees, Least, Builds}
+use Rattle.pair_stream.specs.Orders.{Ordered, Complete}
+use Rattle.plan_space.specs.declared.class.Class.TheVariants.{Narrow, ZigZag}
+use Rattle.plan_space.specs.Classes.{InClass, LeastIn}
+use Rattle.plan_space.specs.Thin.{thin}
+
+-- Of a list of all pairs, each after those that build its sides, the thin pairs are ordered in the same way, and the
+-- sides of each are built by thin pairs,
+abbrev pub ThinListsAreOrdered : Type 0
+ThinListsAreOrdered =
+    (g : JoinGraph) (width : ℕ) (pairs : List Pair) → IsGraph g → 1 ≤ width → Complete g pairs → Ordered pairs
+    → Ordered (thin width pairs) × Builds g (thin width pairs)
+
+-- and they make the trees of a class: of two relations Narrow, of one ZigZag.
+abbrev pub ThinListsMakeTheClasses : Type 0
+ThinListsMakeTheClasses =
+    (kind : ℕ) (q : JoinQuery) (pairs : List Pair) (t : JoinTree) → IsQuery q → Complete (graph_of q) pairs
+    → (Trees kind q (thin 2 pairs) t ↔ InClass Narrow kind (graph_of q) t)
+    × (Trees kind q (thin 1 pairs) t ↔ InClass ZigZag kind (graph_of q) t)
+
+-- So over them the least words are those of the class.
+abbrev pub ThinListsGiveLeastWords : Type 0
+ThinListsGiveLeastWords =
+    (kind : ℕ) (q : JoinQuery) (pairs : List Pair) (s w : ℕ) → IsQuery q → Complete (graph_of q) pairs
+    → (Least kind q (thin 2 pairs) s w ↔ LeastIn Narrow kind q s w)
+    × (Least kind q (thin 1 pairs) s w ↔ LeastIn ZigZag kind q s w)

@@ -1,0 +1,17 @@
+//! What holds of thin lists, and of the plans of a class.
+ghost use Rattle.plan_space.specs.Laws.{ThinListsAreOrdered, ThinListsMakeTheClasses, ThinListsGiveLeastWords};
+
+/// The thin pairs of a list that is complete and ordered are ordered, and build the sides of each.
+pub fn thin_lists_are_ordered()
+    ensures { ThinListsAreOrdered }
+{}
+
+/// The thin pairs of a complete list make the trees of a class.
+pub fn thin_lists_make_the_classes()
+    ensures { ThinListsMakeTheClasses }
+{}
+
+/// The least words over the thin pairs of a complete list are those of the class.
+pub fn thin_lists_give_least_words()
+    ensures { ThinListsGiveLeastWords }
+{}
