@@ -1,2 +1,6 @@
 pub mod ThinSteps
+pub mod ClassLaws
 pub mod ThinLaws
+pub mod LeastOf
+pub mod LeftLaws
+pub mod ClassPlans

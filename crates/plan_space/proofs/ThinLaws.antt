@@ -10,18 +10,19 @@ use Rattle.dpe_base.specs.Sets.{single, size}
 use Rattle.dpe_base.proofs.SetLaws.{union_comm}
 use Rattle.dpe_base.proofs.SizeLaws.{size-single}
 use Rattle.join_graph.specs.Graphs.{JoinGraph, IsGraph, Connected, Pairs, pair_of, graph_of}
-use Rattle.join_graph.specs.PairLists.{SideBuilt}
+use Rattle.join_graph.specs.PairLists.{HasAllPairs, SideBuilt}
 use Rattle.join_graph.proofs.GraphLaws.{Extended, connected_extended, connected_single, pair_either}
-use Rattle.join_tree.specs.Trees.{JoinTree, leaf, join, set_of, Legal, Trees, Least}
-use Rattle.join_tree.proofs.TreeLaws.{legal_connected, join_size, made_legal}
-use Rattle.pair_stream.specs.Orders.{StandsAt, BuildsSide, Ordered, Complete}
+use Rattle.join_tree.specs.Trees.{JoinTree, leaf, join, set_of, Legal, Trees, Least, Builds}
+use Rattle.join_tree.proofs.TreeLaws.{legal_connected, made_legal}
+use Rattle.pair_stream.specs.Orders.{StandsAt, BuildsSide, Ordered}
 use Rattle.pair_stream.proofs.Lists.{contains_filter, contains_from_filter, passes_from_filter}
 use Rattle.pair_stream.proofs.OrderLaws.{MayPrecede, builds_itself}
 use Rattle.plan_space.specs.declared.class.Class.{Class}
 use Rattle.plan_space.specs.declared.class.Class.TheVariants.{Narrow, ZigZag}
-use Rattle.plan_space.specs.Classes.{IsLeaf, SidesIn, JoinsIn, InClass, LeastIn}
+use Rattle.plan_space.specs.Classes.{SidesIn, JoinsIn, InClass, LeastIn}
 use Rattle.plan_space.specs.Laws.{ThinListsAreOrdered, ThinListsMakeTheClasses, ThinListsGiveLeastWords}
 use Rattle.plan_space.specs.Thin.{is_thin, thin}
+use Rattle.plan_space.proofs.ClassLaws.{leaf_one, one_leaf}
 
 -- ---- members
 
@@ -87,59 +88,57 @@ before_from g pairs within order j k p q at_j at_k b =
         (subst (MayPrecede q) (get_or_default pairs j q p at_j.0 ∙ at_j.1) m).1
 
 -- a connected set of two relations or more is made of one without a relation, and of this
-thin_built : (g : JoinGraph) (width : ℕ) (pairs : List Pair) → IsGraph g → 1 ≤ width → Complete g pairs → (s : ℕ) → Connected g s → SideBuilt (thin width pairs) s
+pub thin_built : (g : JoinGraph) (width : ℕ) (pairs : List Pair) → IsGraph g → 1 ≤ width → HasAllPairs g pairs → (s : ℕ) → Connected g s → SideBuilt (thin width pairs) s
 thin_built g width pairs ok some all s c many =
     let e : Extended g s = connected_extended g s c many in
     let one : size (single e.last) ≤ width = omega (arith, size-single e.last, some) in
     elim (pair_either g e.part (single e.last) ok.few e.connected (connected_single g e.last e.known) e.apart e.crossed) [
-      | inl p ↦ (pair_of e.part (single e.last), in_thin width pairs _ ((all.members _).1 p) (inr one), e.whole)
-      | inr p ↦ (pair_of (single e.last) e.part, in_thin width pairs _ ((all.members _).1 p) (inl one), union_comm (single e.last) e.part ∙ e.whole)
+      | inl p ↦ (pair_of e.part (single e.last), in_thin width pairs _ ((all _).1 p) (inr one), e.whole)
+      | inr p ↦ (pair_of (single e.last) e.part, in_thin width pairs _ ((all _).1 p) (inl one), union_comm (single e.last) e.part ∙ e.whole)
     ]
+
+thin_pairs : (g : JoinGraph) (width : ℕ) (pairs : List Pair) → HasAllPairs g pairs → (p : Pair) → Contains (thin width pairs) p → Pairs g p
+thin_pairs g width pairs all p c = (all p).0 (of_thin width pairs p c).0
+
+pub thin_builds : (g : JoinGraph) (width : ℕ) (pairs : List Pair) → IsGraph g → 1 ≤ width → HasAllPairs g pairs → Builds g (thin width pairs)
+thin_builds g width pairs ok some all =
+    record {
+      within = thin_pairs g width pairs all;
+      sides = λ p c. (
+        thin_built g width pairs ok some all p.a (thin_pairs g width pairs all p c).first,
+        thin_built g width pairs ok some all p.b (thin_pairs g width pairs all p c).second,
+      );
+    }
 
 pub thin_lists_are_ordered : ThinListsAreOrdered
 thin_lists_are_ordered g width pairs ok some all order = (
   record {
     once = λ j k d l in_list. (thin_may_precede width pairs order j k d l in_list).0;
-    before = before_from g (thin width pairs) within (thin_may_precede width pairs order);
-    sides = sides;
+    before = before_from g (thin width pairs) (thin_pairs g width pairs all.members) (thin_may_precede width pairs order);
+    sides = (thin_builds g width pairs ok some all.members).sides;
   },
-  record { within = within; sides = sides },
+  thin_builds g width pairs ok some all.members,
 )
-  where
-    within : (p : Pair) → Contains (thin width pairs) p → Pairs g p
-    within p c = (all.members p).0 (of_thin width pairs p c).0
-
-    sides : (p : Pair) → Contains (thin width pairs) p → SideBuilt (thin width pairs) p.a × SideBuilt (thin width pairs) p.b
-    sides p c = (thin_built g width pairs ok some all p.a (within p c).first, thin_built g width pairs ok some all p.b (within p c).second)
 
 -- ---- trees
 
--- a legal tree over one relation is a leaf
-leaf_one : (t : JoinTree) → IsLeaf t → size (set_of t) ≤ 1
-leaf_one (leaf r) l = omega (arith, size-single r)
-leaf_one (join op a b) l = absurd l
-
-one_leaf : (kind : ℕ) (g : JoinGraph) (t : JoinTree) → Legal kind g t → size (set_of t) ≤ 1 → IsLeaf t
-one_leaf kind g (leaf r) l one = tt
-one_leaf kind g (join op a b) l one = absurd (omega (arith, join_size kind g op a b l, one))
-
 -- the class asks of each join for a side of so many relations at most
-abbrev IsOfWidth : Class → ℕ → Type 0
+abbrev pub IsOfWidth : Class → ℕ → Type 0
 IsOfWidth c width =
     (kind : ℕ) (g : JoinGraph) (l r : JoinTree) → Legal kind g l → Legal kind g r → SidesIn c l r ↔ SmallSide width (set_of l) (set_of r)
 
-narrow_of_two : IsOfWidth Narrow 2
+pub narrow_of_two : IsOfWidth Narrow 2
 narrow_of_two kind g l r m n = (λ h. h, λ h. h)
 
-zig_zag_of_one : IsOfWidth ZigZag 1
+pub zig_zag_of_one : IsOfWidth ZigZag 1
 zig_zag_of_one kind g l r m n = (
   λ h. elim h [ inl x ↦ inl (leaf_one l x) | inr x ↦ inr (leaf_one r x) ],
   λ h. elim h [ inl x ↦ inl (one_leaf kind g l m x) | inr x ↦ inr (one_leaf kind g r n x) ],
 )
 
-module _ (c : Class) (width kind : ℕ) (q : JoinQuery) (pairs : List Pair) (of_width : IsOfWidth c width) (ok : IsQuery q) (all : Complete (graph_of q) pairs) where
+module _ (c : Class) (width kind : ℕ) (q : JoinQuery) (pairs : List Pair) (of_width : IsOfWidth c width) (ok : IsQuery q) (all : HasAllPairs (graph_of q) pairs) where
   thin_within : (p : Pair) → Contains (thin width pairs) p → Pairs (graph_of q) p
-  thin_within p h = (all.members p).0 (of_thin width pairs p h).0
+  thin_within p h = thin_pairs (graph_of q) width pairs all p h
 
   small_of : (a b : ℕ) → Contains (thin width pairs) (pair_of a b) ⊎ Contains (thin width pairs) (pair_of b a) → SmallSide width a b
   small_of a b h =
@@ -163,8 +162,8 @@ module _ (c : Class) (width kind : ℕ) (q : JoinQuery) (pairs : List Pair) (of_
     class_made l m.1 j.1,
     class_made r m.2 j.2,
     elim (pair_either (graph_of q) (set_of l) (set_of r) ok.few (legal_connected kind (graph_of q) l m.1) (legal_connected kind (graph_of q) r m.2) m.3 m.4) [
-      | inl p ↦ inl (in_thin width pairs _ ((all.members _).1 p) ((of_width kind (graph_of q) l r m.1 m.2).0 j.0))
-      | inr p ↦ inr (in_thin width pairs _ ((all.members _).1 p) (elim ((of_width kind (graph_of q) l r m.1 m.2).0 j.0) [ inl x ↦ inr x | inr x ↦ inl x ]))
+      | inl p ↦ inl (in_thin width pairs _ ((all _).1 p) ((of_width kind (graph_of q) l r m.1 m.2).0 j.0))
+      | inr p ↦ inr (in_thin width pairs _ ((all _).1 p) (elim ((of_width kind (graph_of q) l r m.1 m.2).0 j.0) [ inl x ↦ inr x | inr x ↦ inl x ]))
     ],
   )
 
@@ -174,7 +173,7 @@ module _ (c : Class) (width kind : ℕ) (q : JoinQuery) (pairs : List Pair) (of_
     λ i. class_made t i.legal i.joins,
   )
 
-  thin_least : (s w : ℕ) → Least kind q (thin width pairs) s w ↔ LeastIn c kind q s w
+  pub thin_least : (s w : ℕ) → Least kind q (thin width pairs) s w ↔ LeastIn c kind q s w
   thin_least s w = (
     λ x. record {
       some = (x.made.tree, (thin_makes x.made.tree).0 x.made.made, x.made.over, x.made.word);
@@ -188,12 +187,12 @@ module _ (c : Class) (width kind : ℕ) (q : JoinQuery) (pairs : List Pair) (of_
 
 pub thin_lists_make_the_classes : ThinListsMakeTheClasses
 thin_lists_make_the_classes kind q pairs t ok all = (
-  thin_makes Narrow 2 kind q pairs narrow_of_two ok all t,
-  thin_makes ZigZag 1 kind q pairs zig_zag_of_one ok all t,
+  thin_makes Narrow 2 kind q pairs narrow_of_two ok all.members t,
+  thin_makes ZigZag 1 kind q pairs zig_zag_of_one ok all.members t,
 )
 
 pub thin_lists_give_least_words : ThinListsGiveLeastWords
 thin_lists_give_least_words kind q pairs s w ok all = (
-  thin_least Narrow 2 kind q pairs narrow_of_two ok all s w,
-  thin_least ZigZag 1 kind q pairs zig_zag_of_one ok all s w,
+  thin_least Narrow 2 kind q pairs narrow_of_two ok all.members s w,
+  thin_least ZigZag 1 kind q pairs zig_zag_of_one ok all.members s w,
 )

@@ -1,12 +1,13 @@
 -- The laws of the crate.
-use Rattle.std.specs.Prelude.{ℕ, ◌≤◌, ◌↔◌, List}
+use Rattle.std.specs.Prelude.{◌≡◌, ℕ, ◌≤◌, ◌↔◌, List}
 use Rattle.dpe_base.specs.declared.pair.Pair.{Pair}
 use Rattle.dpe_base.specs.Queries.{JoinQuery, IsQuery}
-use Rattle.join_graph.specs.Graphs.{JoinGraph, IsGraph, graph_of}
+use Rattle.join_graph.specs.Graphs.{JoinGraph, IsGraph, Connected, graph_of}
 use Rattle.join_tree.specs.Trees.{JoinTree, Trees, Least, Builds}
 use Rattle.pair_stream.specs.Orders.{Ordered, Complete}
+use Rattle.plan_space.specs.declared.class.Class.{Class}
 use Rattle.plan_space.specs.declared.class.Class.TheVariants.{Narrow, ZigZag}
-use Rattle.plan_space.specs.Classes.{InClass, LeastIn}
+use Rattle.plan_space.specs.Classes.{InClass, LeastIn, PlanIn}
 use Rattle.plan_space.specs.Thin.{thin}
 
 -- Of a list of all pairs, each after those that build its sides, the thin pairs are ordered in the same way, and the
@@ -29,3 +30,9 @@ ThinListsGiveLeastWords =
     (kind : ℕ) (q : JoinQuery) (pairs : List Pair) (s w : ℕ) → IsQuery q → Complete (graph_of q) pairs
     → (Least kind q (thin 2 pairs) s w ↔ LeastIn Narrow kind q s w)
     × (Least kind q (thin 1 pairs) s w ↔ LeastIn ZigZag kind q s w)
+
+-- The connected sets are those that have a plan in the class. A set has at most one.
+abbrev pub ConnectedSetsHaveOnePlanIn : Type 0
+ConnectedSetsHaveOnePlanIn =
+    (c : Class) (kind : ℕ) (q : JoinQuery) (s : ℕ) → IsQuery q
+    → (Connected (graph_of q) s ↔ ((t : JoinTree) × PlanIn c kind q s t)) × ((t u : JoinTree) → PlanIn c kind q s t → PlanIn c kind q s u → t ≡ u)

@@ -1,3 +1,4 @@
 pub mod Classes
 pub mod Thin
+pub mod LeastWords
 pub mod Laws

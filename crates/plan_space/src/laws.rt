@@ -1,5 +1,5 @@
 //! What holds of thin lists, and of the plans of a class.
-ghost use Rattle.plan_space.specs.Laws.{ThinListsAreOrdered, ThinListsMakeTheClasses, ThinListsGiveLeastWords};
+ghost use Rattle.plan_space.specs.Laws.{ThinListsAreOrdered, ThinListsMakeTheClasses, ThinListsGiveLeastWords, ConnectedSetsHaveOnePlanIn};
 
 /// The thin pairs of a list that is complete and ordered are ordered, and build the sides of each.
 pub fn thin_lists_are_ordered()
@@ -14,4 +14,9 @@ pub fn thin_lists_make_the_classes()
 /// The least words over the thin pairs of a complete list are those of the class.
 pub fn thin_lists_give_least_words()
     ensures { ThinListsGiveLeastWords }
+{}
+
+/// The connected sets are those that have a plan in a class, and a set has at most one.
+pub fn connected_sets_have_one_plan_in()
+    ensures { ConnectedSetsHaveOnePlanIn }
 {}
