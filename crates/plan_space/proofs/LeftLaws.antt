@@ -29,7 +29,7 @@ use Rattle.plan_space.proofs.LeastOf.{least_none, least_alone, least_again, leas
 -- ---- sets
 
 -- the rest of a set without one of its relations
-rest_smaller : (s r : ℕ) → Has s r → minus s (single r) < s
+pub rest_smaller : (s r : ℕ) → Has s r → minus s (single r) < s
 rest_smaller s r h =
     let whole : union (minus s (single r)) (single r) ≡ s = same_set _ _ (λ k. grind (arith, sets, h)) in
     omega (arith, whole, union_add (minus s (single r)) (single r) (λ k. grind (arith, sets)), single_some r)
@@ -39,6 +39,14 @@ rest_again s r h = same_set _ _ (λ k. grind (arith, sets, h))
 
 rest_of_union : (a r : ℕ) → Disjoint a (single r) → minus (union a (single r)) (single r) ≡ a
 rest_of_union a r d = same_set _ _ (λ k. grind (arith, sets, d k))
+
+-- an operator more
+pub joins_more : (kind n left first l r o v here : ℕ) → IsLeastOf (JoinsBelow n kind left first l r o) v → here ≡ word (word_cost first + join_cost kind n l r o) n left → IsLeastOf (JoinsBelow (suc n) kind left first l r o) (min v here)
+joins_more kind n left first l r o v here x e =
+    least_both (JoinsBelow n kind left first l r o) (λ u. u ≡ here) (JoinsBelow (suc n) kind left first l r o) v here x (least_alone here)
+    (λ u h. (h.0, omega (arith, h.1), h.2))
+    (λ u h. (n, omega arith, h ∙ e))
+    (λ u h. elim (cases_eq h.0 n) [ inl same ↦ inr (h.2 ∙ ap (λ k. word (word_cost first + join_cost kind k l r o) k left) same ∙ sym e) | inr other ↦ inl (h.0, omega (arith, h.1), h.2) ])
 
 module _ (kind : ℕ) (q : JoinQuery) (ok : IsQuery q) where
   -- ---- each connected set has a left-deep tree with a word
@@ -186,19 +194,12 @@ module _ (kind : ℕ) (q : JoinQuery) (ok : IsQuery q) where
 
   -- ---- each set of relations has such a word
 
-  pub joins_more : (n left first l r o v here : ℕ) → IsLeastOf (JoinsBelow n kind left first l r o) v → here ≡ word (word_cost first + join_cost kind n l r o) n left → IsLeastOf (JoinsBelow (suc n) kind left first l r o) (min v here)
-  joins_more n left first l r o v here x e =
-      least_both (JoinsBelow n kind left first l r o) (λ u. u ≡ here) (JoinsBelow (suc n) kind left first l r o) v here x (least_alone here)
-      (λ u h. (h.0, omega (arith, h.1), h.2))
-      (λ u h. (n, omega arith, h ∙ e))
-      (λ u h. elim (cases_eq h.0 n) [ inl same ↦ inr (h.2 ∙ ap (λ k. word (word_cost first + join_cost kind k l r o) k left) same ∙ sym e) | inr other ↦ inl (h.0, omega (arith, h.1), h.2) ])
-
   joins_exist : (n left first l r o : ℕ) → (w : ℕ) × IsLeastOf (JoinsBelow n kind left first l r o) w
   joins_exist zero left first l r o = (EMPTY, least_none _ (λ v h. omega (arith, h.1)))
   joins_exist (suc n) left first l r o =
       let x : (w : ℕ) × IsLeastOf (JoinsBelow n kind left first l r o) w = joins_exist n left first l r o in
       let here : ℕ = word (word_cost first + join_cost kind n l r o) n left in
-      (min x.0 here, joins_more n left first l r o x.0 here x.1 refl)
+      (min x.0 here, joins_more kind n left first l r o x.0 here x.1 refl)
 
   -- at one relation: the search asks whether it is in the set, whether the rest has a word, and whether an edge joins the two
   abbrev EachHasWord : ℕ → Type 0

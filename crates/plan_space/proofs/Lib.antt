@@ -4,3 +4,4 @@ pub mod ThinLaws
 pub mod LeastOf
 pub mod LeftLaws
 pub mod ClassPlans
+pub mod LeftSteps

@@ -1,12 +1,15 @@
 //! Plan spaces: the plans that an engine of limited means can run, each the least of its kind.
 //!
 //! A [`Class`] says which joins a tree may have. For the classes `Narrow` and `ZigZag` run the enumeration of your choice
-//! through [`Thin`]: the least words over its pairs are those of the class.
+//! through [`Thin`]: the least words over its pairs are those of the class. For `LeftDeep`, which tells the two orders of a
+//! pair apart, [`left_words`] makes the words.
 #![tactic(auto)]
 
 mod class;
 pub mod laws;
+mod left_deep;
 mod thin;
 
 pub use class::Class;
+pub use left_deep::left_words;
 pub use thin::Thin;
