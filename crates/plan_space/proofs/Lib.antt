@@ -5,3 +5,4 @@ pub mod LeastOf
 pub mod LeftLaws
 pub mod ClassPlans
 pub mod LeftSteps
+pub mod RootLaws

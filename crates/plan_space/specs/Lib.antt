@@ -1,4 +1,5 @@
 pub mod Classes
 pub mod Thin
 pub mod LeastWords
+pub mod Roots
 pub mod Laws
