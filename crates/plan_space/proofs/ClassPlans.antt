@@ -19,9 +19,9 @@ use Rattle.join_tree.proofs.AllPairs.{all_pairs}
 use Rattle.plan_space.specs.declared.class.Class.{Class}
 use Rattle.plan_space.specs.declared.class.Class.TheVariants.{Narrow, ZigZag, LeftDeep}
 use Rattle.plan_space.specs.Classes.{InClass, LeastIn, PlanIn}
-use Rattle.plan_space.specs.Laws.{ConnectedSetsHaveOnePlanIn}
+use Rattle.plan_space.specs.Laws.{ConnectedSetsHaveOnePlanIn, ConnectedSetsHaveLeastWordsIn}
 use Rattle.plan_space.specs.Thin.{thin}
-use Rattle.plan_space.proofs.ClassLaws.{HasLeast, plan_join, plan_same}
+use Rattle.plan_space.proofs.ClassLaws.{HasLeast, least_same, least_connected, plan_join, plan_same}
 use Rattle.plan_space.proofs.ThinLaws.{IsOfWidth, narrow_of_two, zig_zag_of_one, thin_built, thin_builds, thin_least}
 use Rattle.plan_space.proofs.LeftLaws.{connected_left}
 
@@ -124,4 +124,10 @@ connected_sets_have_one_plan_in c kind q s ok = (
     λ plan. subst (Connected (graph_of q)) plan.1.over (legal_connected kind (graph_of q) plan.0 plan.1.in_class.legal),
   ),
   plan_same c kind q ok s,
+)
+
+pub connected_sets_have_least_words_in : ConnectedSetsHaveLeastWordsIn
+connected_sets_have_least_words_in c kind q s ok = (
+  (connected_least c kind q s ok, λ x. least_connected c kind q ok s x.0 x.1),
+  least_same c kind q ok s,
 )

@@ -6,3 +6,4 @@ pub mod LeftLaws
 pub mod ClassPlans
 pub mod LeftSteps
 pub mod RootLaws
+pub mod Nested

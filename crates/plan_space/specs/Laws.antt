@@ -3,10 +3,10 @@ use Rattle.std.specs.Prelude.{◌≡◌, ℕ, ◌≤◌, ◌↔◌, List}
 use Rattle.dpe_base.specs.declared.pair.Pair.{Pair}
 use Rattle.dpe_base.specs.Queries.{JoinQuery, IsQuery}
 use Rattle.join_graph.specs.Graphs.{JoinGraph, IsGraph, Connected, graph_of}
-use Rattle.join_tree.specs.Trees.{JoinTree, Trees, Least, Builds}
+use Rattle.join_tree.specs.Trees.{JoinTree, Trees, Least, Best, Builds}
 use Rattle.pair_stream.specs.Orders.{Ordered, Complete}
 use Rattle.plan_space.specs.declared.class.Class.{Class}
-use Rattle.plan_space.specs.declared.class.Class.TheVariants.{Narrow, ZigZag}
+use Rattle.plan_space.specs.declared.class.Class.TheVariants.{Narrow, ZigZag, LeftDeep}
 use Rattle.plan_space.specs.Classes.{InClass, LeastIn, PlanIn}
 use Rattle.plan_space.specs.Thin.{thin}
 
@@ -36,3 +36,22 @@ abbrev pub ConnectedSetsHaveOnePlanIn : Type 0
 ConnectedSetsHaveOnePlanIn =
     (c : Class) (kind : ℕ) (q : JoinQuery) (s : ℕ) → IsQuery q
     → (Connected (graph_of q) s ↔ ((t : JoinTree) × PlanIn c kind q s t)) × ((t u : JoinTree) → PlanIn c kind q s t → PlanIn c kind q s u → t ≡ u)
+
+-- A left-deep tree is a zig-zag tree, and a zig-zag tree is a narrow one.
+abbrev pub ClassesAreNested : Type 0
+ClassesAreNested =
+    (kind : ℕ) (g : JoinGraph) (t : JoinTree)
+    → (InClass LeftDeep kind g t → InClass ZigZag kind g t) × (InClass ZigZag kind g t → InClass Narrow kind g t)
+
+-- So a narrower class has no smaller word, and none has a smaller one than all legal trees.
+abbrev pub NarrowerClassesCostNoLess : Type 0
+NarrowerClassesCostNoLess =
+    (kind : ℕ) (q : JoinQuery) (s best narrow zig_zag left_deep : ℕ)
+    → Best kind q s best → LeastIn Narrow kind q s narrow → LeastIn ZigZag kind q s zig_zag → LeastIn LeftDeep kind q s left_deep
+    → (best ≤ narrow) × (narrow ≤ zig_zag) × (zig_zag ≤ left_deep)
+
+-- The connected sets are those that have a least word in the class. A set has at most one.
+abbrev pub ConnectedSetsHaveLeastWordsIn : Type 0
+ConnectedSetsHaveLeastWordsIn =
+    (c : Class) (kind : ℕ) (q : JoinQuery) (s : ℕ) → IsQuery q
+    → (Connected (graph_of q) s ↔ ((w : ℕ) × LeastIn c kind q s w)) × ((v w : ℕ) → LeastIn c kind q s v → LeastIn c kind q s w → v ≡ w)

@@ -1,5 +1,5 @@
 //! What holds of thin lists, and of the plans of a class.
-ghost use Rattle.plan_space.specs.Laws.{ThinListsAreOrdered, ThinListsMakeTheClasses, ThinListsGiveLeastWords, ConnectedSetsHaveOnePlanIn};
+ghost use Rattle.plan_space.specs.Laws.{ThinListsAreOrdered, ThinListsMakeTheClasses, ThinListsGiveLeastWords, ConnectedSetsHaveLeastWordsIn, ConnectedSetsHaveOnePlanIn, ClassesAreNested, NarrowerClassesCostNoLess};
 
 /// The thin pairs of a list that is complete and ordered are ordered, and build the sides of each.
 pub fn thin_lists_are_ordered()
@@ -16,7 +16,22 @@ pub fn thin_lists_give_least_words()
     ensures { ThinListsGiveLeastWords }
 {}
 
+/// The connected sets are those that have a least word in a class, and a set has at most one.
+pub fn connected_sets_have_least_words_in()
+    ensures { ConnectedSetsHaveLeastWordsIn }
+{}
+
 /// The connected sets are those that have a plan in a class, and a set has at most one.
 pub fn connected_sets_have_one_plan_in()
     ensures { ConnectedSetsHaveOnePlanIn }
+{}
+
+/// A left-deep tree is a zig-zag tree, and a zig-zag tree is a narrow one.
+pub fn classes_are_nested()
+    ensures { ClassesAreNested }
+{}
+
+/// The least words of the classes over a set, the widest class first, don't fall.
+pub fn narrower_classes_cost_no_less()
+    ensures { NarrowerClassesCostNoLess }
 {}

@@ -9,6 +9,8 @@ mod build;
 mod class;
 pub mod laws;
 mod left_deep;
+#[cfg(test)]
+mod tests;
 mod thin;
 
 pub use build::build_class;
