@@ -33,13 +33,17 @@ pub enum Mode {
 /// What a command line asks for.
 #[derive(Clone, Copy, Debug, PartialEq, Eq)]
 pub struct Settings {
+    /// What the program is asked to do.
     pub mode: Mode,
+    /// How the pairs of a query are enumerated.
     pub enumerator: Kind,
-    /// How many pairs a buffer holds: 1 to 65,536.
+    /// How many pairs a buffer holds: 1 to [`BUFFER_MAX`](dpe_base::BUFFER_MAX).
     pub buffer: u32,
-    /// How many workers share the pairs of a group: 1 to 64.
+    /// How many workers share the memo: 1 to [`WORKERS_MAX`](dpe_base::WORKERS_MAX).
     pub workers: u32,
+    /// The cost model by which plans are compared.
     pub model: ModelKind,
+    /// The form of the report.
     pub format: Format,
     /// Whether the report has a line of statistics for each query.
     pub stats: bool,

@@ -8,6 +8,7 @@ use crate::values::{
     enumerator_of, format_of, mode_of, model_of, number_in, small_number_in, stats_of,
 };
 use clap::error::ErrorKind;
+use dpe_base::{BUFFER_MAX, WORKERS_MAX};
 use std::alloc::{AllocError, Global};
 
 /// The values of the options, as they were written.
@@ -57,18 +58,17 @@ fn texts_in<'a>(alloc: Global, line: &'a [&'a str]) -> Result<Texts<'a>, WordFau
     }
 }
 
-// How many pairs a buffer has room for.
+// How many pairs a buffer holds.
 const BUFFER_MIN: u32 = 1;
-
-const BUFFER_MAX: u32 = 65536;
 
 const BUFFER_DEFAULT: u32 = 4096;
 
 const WORKERS_MIN: u32 = 1;
 
-const WORKERS_MAX: u32 = 64;
-
 const WORKERS_DEFAULT: u32 = 4;
+
+// The definition of a command line has the numbers themselves.
+const _: () = prove!(BUFFER_MAX == 65_536 && WORKERS_MAX == 64);
 
 /// What the values ask for, where each stands in its table.
 #[tactic(auto, unfolding(crate::specs::Line::settings_by), using(crate::proofs::Numbers::in_range))]

@@ -55,7 +55,7 @@ frac_place_text (frac.Join j) = codes "join " ++ decimal j
 -- a refusal in words
 unfoldable pub refusal_text : QueryRefusal → List ℕ
 refusal_text NoRelations = codes "no relations"
-refusal_text (TooManyRelations n) = decimal n ++ codes " relations, at most 16"
+refusal_text (TooManyRelations n) = decimal n ++ codes " relations, at most 20"
 refusal_text (DuplicateAlias a) = codes "alias " ++ (a ++ codes " twice")
 refusal_text (UnknownTable t) = codes "unknown table " ++ t
 refusal_text (UnknownAlias a) = codes "unknown alias " ++ a

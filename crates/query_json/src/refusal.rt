@@ -19,7 +19,7 @@ pub enum FracPlace {
 pub enum QueryRefusal {
     /// The query has no relation.
     NoRelations,
-    /// The query has more than 16 relations, this many.
+    /// The query has more than [`N_MAX`](dpe_base::N_MAX) relations, this many.
     TooManyRelations(u64),
     /// The alias of the first relation whose alias an earlier one has.
     DuplicateAlias(Name),
@@ -31,7 +31,7 @@ pub enum QueryRefusal {
     UnknownColumn(Name, Name),
     /// The alias that stands at both ends of a join.
     SelfJoin(Name),
-    /// A fraction [n, d] without 1 ≤ n ≤ d ≤ 2^40. The filters come before the selectivities.
+    /// A fraction [n, d] without 1 ≤ n ≤ d ≤ [`INPUT_CAP`](dpe_base::INPUT_CAP). The filters come before the selectivities.
     BadFraction(FracPlace),
     /// The alias of the first relation that no walk along the joins reaches from the first relation of all.
     Disconnected(Name),

@@ -250,7 +250,7 @@ fn the_first_refusal_counts(rt: HostRuntime) -> Result<(), Fail> {
             {"left":"b","right":"a","selectivity":[1,2]},{"left":"c","right":"d","selectivity":[1,2]}]"#,
             "9 relation d is not connected",
         ),
-        (many.as_str(), "2 17 relations, at most 16"),
+        (many.as_str(), "2 17 relations, at most 20"),
     ];
     for (relations, refusal) in rows {
         let file = format!(in alloc;

@@ -4,7 +4,7 @@ ghost use Rattle.query_json.specs.Texts.{frac_place_text, path_of, refusal_code,
 
 use crate::place::{Place, Site};
 use crate::refusal::{FracPlace, QueryRefusal};
-use dpe_base::Name;
+use dpe_base::{N_MAX, Name};
 use std::alloc::AllocError;
 
 /// Writes a place as a path from the root of the file, like `$.queries[0].joins[2].left`, at the end of `out`.
@@ -82,6 +82,9 @@ fn write_frac_place(out: &mut String, before: &str, place: FracPlace) -> Result<
     }
 }
 
+// The text of a refusal has the number itself.
+const _: () = prove!(N_MAX == 20);
+
 /// Writes a refusal in words, at the end of `out`.
 ///
 /// Fails where there is no memory. What `out` then holds is left open.
@@ -91,7 +94,7 @@ pub fn write_refusal(out: &mut String, refusal: &QueryRefusal) -> Result<(), All
 {
     match refusal {
         QueryRefusal::NoRelations => write!(out, "no relations"),
-        QueryRefusal::TooManyRelations(n) => write!(out, "{n} relations, at most 16"),
+        QueryRefusal::TooManyRelations(n) => write!(out, "{n} relations, at most 20"),
         QueryRefusal::DuplicateAlias(alias) => write_around(out, "alias ", alias, " twice"),
         QueryRefusal::UnknownTable(table) => write_name(out, "unknown table ", table),
         QueryRefusal::UnknownAlias(alias) => write_name(out, "unknown alias ", alias),
