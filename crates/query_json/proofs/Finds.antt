@@ -16,7 +16,7 @@ prefix_map p f (x ∷ xs) = ap (λ n. cond (p (f x)) (1 + n) 0) (prefix_map p f 
 pub position_map : {X Y : Type 0} (p : Y → Bool) (f : X → Y) (xs : List X) → position (λ x. p (f x)) xs ≡ position p (map f xs)
 position_map p f xs = rw (prefix_map (λ y. not (p y)) f xs, length-map) refl
 
-find_by : {X : Type 0} (q : X → Bool) (xs : List X) → find q xs ≡ option_and_then (slice_get xs) (position q xs)
+pub find_by : {X : Type 0} (q : X → Bool) (xs : List X) → find q xs ≡ option_and_then (slice_get xs) (position q xs)
 find_by q xs =
     elim (cases_lt (position_or_len q xs) (length xs)) [
       | inl within ↦ find_at q xs ∙ rw (lt-ltb _ _ within) refl

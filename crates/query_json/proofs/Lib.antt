@@ -8,6 +8,7 @@ pub mod NameLaws
 pub mod NumberLaws
 pub mod Passes
 pub mod QueryLaws
+pub mod ScopeLaws
 pub mod SoundEntries
 pub mod TreeLaws
 pub mod UnreachedLaws

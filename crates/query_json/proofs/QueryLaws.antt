@@ -28,15 +28,9 @@ use Rattle.query_json.specs.declared.refusal.QueryRefusal.TheVariants.{BadFracti
 use Rattle.query_json.specs.declared.scope.Ends.{Ends}
 use Rattle.query_json.specs.Columns.{distinct_in}
 use Rattle.query_json.specs.Limits.{IsColumnWithin, IsQueryWithin, IsTableWithin}
-use Rattle.query_json.specs.Queries.{aliases_of, all_of, apart, checked, count_named, count_of, ends_of, filter_of, found, fraction_at, most_distinct, pred_of, query_of, rel_of, relation_number, selectivity_of, sized, table_named, table_of}
+use Rattle.query_json.specs.Queries.{aliases_of, all_of, apart, checked, count_named, count_of, each_of, ends_of, filter_of, found, fraction_at, most_distinct, pred_of, query_of, rel_of, relation_number, selectivity_over, sized, table_named, table_of}
 use Rattle.query_json.proofs.Binds.{bind_ok, ok_same}
-
-length-all_of : {A B : Type 0} (f : ℕ → A → Result B QueryRefusal) (at : ℕ) (xs : List A) (ys : List B) → all_of f at xs ≡ Ok ys → length ys ≡ length xs
-length-all_of f at [] ys e = ap length (sym (ok_same [] ys e))
-length-all_of f at (x ∷ xs) ys e =
-    let a = bind_ok (f at x) _ ys e in
-    let b = bind_ok (all_of f (at + 1) xs) _ ys a.2 in
-    omega (arith, ap length (sym (ok_same (a.0 ∷ b.0) ys b.2)), length-all_of f (at + 1) xs b.0 b.1)
+use Rattle.query_json.proofs.Passes.{length-all_of}
 
 -- what passes of each member that is not refused passes of all
 all_pass : {A B C : Type 0} (test : B → Bool) (f : ℕ → A → Result B QueryRefusal) (g : A → Result C QueryRefusal) → ((at : ℕ) (x : A) (y : B) (z : C) → g x ≡ Ok z → f at x ≡ Ok y → test y ≡ true) → (at : ℕ) (xs : List A) (ys : List B) → checked g xs ≡ Ok tt → all_of f at xs ≡ Ok ys → list_all test ys ≡ true
@@ -47,6 +41,16 @@ all_pass test f g h at (x ∷ xs) ys c e =
     let b = bind_ok (all_of f (at + 1) xs) _ ys a.2 in
     let first : test a.0 ≡ true = h at x a.0 ok.0 ok.1 a.1 in
     let rest : list_all test b.0 ≡ true = all_pass test f g h (at + 1) xs b.0 ok.2 b.1 in
+    subst (λ l. list_all test l ≡ true) (ok_same (a.0 ∷ b.0) ys b.2) (rw (first, rest) refl)
+
+-- the same of what needs no other check
+all_pass_alone : {A B : Type 0} (test : B → Bool) (f : ℕ → A → Result B QueryRefusal) → ((at : ℕ) (x : A) (y : B) → f at x ≡ Ok y → test y ≡ true) → (at : ℕ) (xs : List A) (ys : List B) → all_of f at xs ≡ Ok ys → list_all test ys ≡ true
+all_pass_alone test f h at [] ys e = subst (λ l. list_all test l ≡ true) (ok_same [] ys e) refl
+all_pass_alone test f h at (x ∷ xs) ys e =
+    let a = bind_ok (f at x) _ ys e in
+    let b = bind_ok (all_of f (at + 1) xs) _ ys a.2 in
+    let first : test a.0 ≡ true = h at x a.0 a.1 in
+    let rest : list_all test b.0 ≡ true = all_pass_alone test f h (at + 1) xs b.0 b.1 in
     subst (λ l. list_all test l ≡ true) (ok_same (a.0 ∷ b.0) ys b.2) (rw (first, rest) refl)
 
 prefix_whole : {X : Type 0} (test : X → Bool) (xs : List X) → list_all test xs ≡ true → prefix_len (λ x. not (not (test x))) xs ≡ length xs
@@ -67,7 +71,7 @@ find_within P test (y ∷ ys) x all e =
       | inr fails ↦ find_within P test ys x (All-tail P y ys all) (rw fails at e)
     ]
 
-found_some : {A : Type 0} (refusal : QueryRefusal) (o : Option A) (x : A) → found refusal o ≡ Ok x → o ≡ Some x
+pub found_some : {A : Type 0} (refusal : QueryRefusal) (o : Option A) (x : A) → found refusal o ≡ Ok x → o ≡ Some x
 found_some refusal None x e = absurd cc
 found_some refusal (Some y) x e = ap Some (ok_same y x e)
 
@@ -96,14 +100,14 @@ rel_passes tables within at r rel e =
 
 -- ---- the ends of a join
 
-no_relation : RelationItem
+pub no_relation : RelationItem
 no_relation = record { alias = []; table = []; filter = None }
 
-record Stands (rs : List RelationItem) (alias : List ℕ) (n : ℕ) : Type 0 where
+pub record Stands (rs : List RelationItem) (alias : List ℕ) (n : ℕ) : Type 0 where
   pub known : n < length rs
   pub same : alias ≡ (get_or rs n no_relation).alias
 
-stands : (rs : List RelationItem) (refusal : QueryRefusal) (alias : List ℕ) (n : ℕ) → relation_number rs refusal alias ≡ Ok n → Stands rs alias n
+pub stands : (rs : List RelationItem) (refusal : QueryRefusal) (alias : List ℕ) (n : ℕ) → relation_number rs refusal alias ≡ Ok n → Stands rs alias n
 stands rs refusal alias n e =
     let at = position-Some (λ r. bytes_eq alias r.alias) rs n no_relation (found_some refusal (position (λ r. bytes_eq alias r.alias) rs) n e) in
     record { known = at.0; same = (bytes_eq-Decides alias (get_or rs n no_relation).alias).0 at.1 }
@@ -148,18 +152,17 @@ most_within tables rs j n all e =
 one_of : (d : ℕ) → 1 ≤ d → d ≤ INPUT_CAP → is_fraction 1 d ≡ true
 one_of d a b = rw (le-leb 1 d a, le-leb d INPUT_CAP b) refl
 
-selectivity_fraction : (tables : List Table) (rs : List RelationItem) (at : ℕ) (j : JoinItem) (o : Option Ratio) (k : Ratio) → All IsTableWithin tables → selectivity_of tables rs at j o ≡ Ok k → is_fraction k.num k.den ≡ true
-selectivity_fraction tables rs at j None k all e =
-    let d = bind_ok (most_distinct tables rs j) _ k e in
-    let w : (1 ≤ d.0) × (d.0 ≤ INPUT_CAP) = most_within tables rs j d.0 all d.1 in
-    subst (λ x. is_fraction x.num x.den ≡ true) (ok_same (record { num = 1; den = d.0 }) k d.2) (one_of d.0 w.0 w.1)
-selectivity_fraction tables rs at j (Some r) k all e = ratio_by (place.Join at) r k e
+selectivity_fraction : (d at : ℕ) (o : Option Ratio) (k : Ratio) → 1 ≤ d → d ≤ INPUT_CAP → selectivity_over d at o ≡ Ok k → is_fraction k.num k.den ≡ true
+selectivity_fraction d at None k some within e = subst (λ x. is_fraction x.num x.den ≡ true) (ok_same (record { num = 1; den = d }) k e) (one_of d some within)
+selectivity_fraction d at (Some r) k some within e = ratio_by (place.Join at) r k e
 
 pred_passes : (tables : List Table) (rs : List RelationItem) → All IsTableWithin tables → (at : ℕ) (j : JoinItem) (p : Pred) (z : Unit {0}) → apart j ≡ Ok z → pred_of tables rs at j ≡ Ok p → is_pred (length rs) p ≡ true
 unfolding pred_of
 pred_passes tables rs all at j p z ok e =
     let ends = bind_ok (ends_of rs j) _ p e in
-    let kept = bind_ok (selectivity_of tables rs at j j.selectivity) _ p ends.2 in
+    let d = bind_ok (most_distinct tables rs j) _ p ends.2 in
+    let w : (1 ≤ d.0) × (d.0 ≤ INPUT_CAP) = most_within tables rs j d.0 all d.1 in
+    let kept = bind_ok (selectivity_over d.0 at j.selectivity) _ p d.2 in
     let made : Pred = record { low = min ends.0.left ends.0.right; high = max ends.0.left ends.0.right; num = kept.0.num; den = kept.0.den } in
     let l = bind_ok (relation_number rs (UnknownAlias j.left) j.left) _ ends.0 ends.1 in
     let r = bind_ok (relation_number rs (UnknownAlias j.right) j.right) _ ends.0 l.2 in
@@ -173,7 +176,7 @@ pred_passes tables rs all at j p z ok e =
     let low : made.low < made.high = omega (arith, lefts, rights, ne) in
     let high : made.high < length rs = omega (arith, lefts, rights, sl.known, sr.known) in
     subst (λ x. is_pred (length rs) x ≡ true) (ok_same made p kept.2)
-    (rw (lt-ltb made.low made.high low, lt-ltb made.high (length rs) high, selectivity_fraction tables rs at j j.selectivity kept.0 all kept.1) refl)
+    (rw (lt-ltb made.low made.high low, lt-ltb made.high (length rs) high, selectivity_fraction d.0 at j.selectivity kept.0 w.0 w.1 kept.1) refl)
 
 -- ---- the query
 
@@ -185,14 +188,13 @@ record Found (tables : List Table) (rs : List RelationItem) (js : List JoinItem)
   pub within : All IsTableWithin tables
   pub few_joins : length js ≤ PREDS_MAX
   pub size : sized rs ≡ Ok tt
-  pub tables_known : checked (table_of tables) rs ≡ Ok tt
   pub two_ends : checked apart js ≡ Ok tt
   pub rels : all_of (rel_of tables) 0 rs ≡ Ok q.rels
   pub preds : all_of (pred_of tables rs) 0 js ≡ Ok q.preds
 
 rels_pass : (tables : List Table) (rs : List RelationItem) (js : List JoinItem) (q : JoinQuery) → Found tables rs js q → list_all is_rel q.rels ≡ true
 rels_pass tables rs js q f =
-    all_pass is_rel (rel_of tables) (table_of tables) (λ at r rel z ok e. rel_passes tables f.within at r rel e) 0 rs q.rels f.tables_known f.rels
+    all_pass_alone is_rel (rel_of tables) (λ at r rel e. rel_passes tables f.within at r rel e) 0 rs q.rels f.rels
 
 preds_pass : (tables : List Table) (rs : List RelationItem) (js : List JoinItem) (q : JoinQuery) → Found tables rs js q → list_all (is_pred (length q.rels)) q.preds ≡ true
 preds_pass tables rs js q f =
@@ -231,9 +233,9 @@ unfolding query_of
 made_from tables item q within few e =
     let size = bind_ok (sized item.relations) _ q e in
     let aliases = bind_ok (aliases_of item.relations) _ q size.2 in
-    let known_tables = bind_ok (checked (table_of tables) item.relations) _ q aliases.2 in
-    let known_aliases = bind_ok (checked (ends_of item.relations) item.joins) _ q known_tables.2 in
-    let known_columns = bind_ok (checked (most_distinct tables item.relations) item.joins) _ q known_aliases.2 in
+    let known_tables = bind_ok (each_of (table_of tables) item.relations) _ q aliases.2 in
+    let known_aliases = bind_ok (each_of (ends_of item.relations) item.joins) _ q known_tables.2 in
+    let known_columns = bind_ok (each_of (most_distinct tables item.relations) item.joins) _ q known_aliases.2 in
     let ends = bind_ok (checked apart item.joins) _ q known_columns.2 in
     let rels = bind_ok (all_of (rel_of tables) 0 item.relations) _ q ends.2 in
     let preds = bind_ok (all_of (pred_of tables item.relations) 0 item.joins) _ q rels.2 in
@@ -243,7 +245,6 @@ made_from tables item q within few e =
       within = within;
       few_joins = few;
       size = size.1;
-      tables_known = known_tables.1;
       two_ends = ends.1;
       rels = rels.1;
       preds = preds.1;

@@ -26,6 +26,10 @@ abbrev pub all_of : {A B : Type 0} → (ℕ → A → Result B QueryRefusal) →
 all_of f at [] = Ok []
 all_of f at (x ∷ xs) = f at x >>= λ y. all_of f (at + 1) xs >>= λ ys. Ok (y ∷ ys)
 
+-- the same of what does not depend on the number
+abbrev pub each_of : {A B : Type 0} → (A → Result B QueryRefusal) → List A → Result (List B) QueryRefusal
+each_of f = all_of (λ at. f) 0
+
 -- no member is refused, or the first refusal
 abbrev pub checked : {A B : Type 0} → (A → Result B QueryRefusal) → List A → Result (Unit {0}) QueryRefusal
 checked f [] = Ok tt
@@ -62,11 +66,13 @@ filter_of at None = Ok (record { num = 1; den = 1 })
 filter_of at (Some r) = fraction_at (place.Relation at) r
 
 -- the relation has its table's rows and its filter's fraction
+abbrev pub rel_over : Table → ℕ → RelationItem → Result Rel QueryRefusal
+rel_over table at r = filter_of at r.filter >>= λ kept. Ok (record { rows = table.rows; num = kept.num; den = kept.den })
+
 unfoldable pub rel_of : List Table → ℕ → RelationItem → Result Rel QueryRefusal
 rel_of tables at r = do
   table ← table_of tables r
-  kept ← filter_of at r.filter
-  Ok (record { rows = table.rows; num = kept.num; den = kept.den })
+  rel_over table at r
 
 -- ---- joins
 
@@ -101,15 +107,21 @@ abbrev pub apart : JoinItem → Result (Unit {0}) QueryRefusal
 apart j = if bytes_eq j.left j.right then Err (SelfJoin j.left) else Ok tt
 
 -- the fraction that a join keeps: its selectivity, or one of as many as the columns have distinct values
-abbrev pub selectivity_of : List Table → List RelationItem → ℕ → JoinItem → Option Ratio → Result Ratio QueryRefusal
-selectivity_of tables rs at j None = most_distinct tables rs j >>= λ d. Ok (record { num = 1; den = d })
-selectivity_of tables rs at j (Some r) = fraction_at (place.Join at) r
+abbrev pub selectivity_over : ℕ → ℕ → Option Ratio → Result Ratio QueryRefusal
+selectivity_over distinct at None = Ok (record { num = 1; den = distinct })
+selectivity_over distinct at (Some r) = fraction_at (place.Join at) r
+
+-- the join lies between the relations at its ends
+abbrev pub pred_over : Ends → ℕ → ℕ → JoinItem → Result Pred QueryRefusal
+pred_over ends distinct at j =
+    selectivity_over distinct at j.selectivity
+    >>= λ kept. Ok (record { low = min ends.left ends.right; high = max ends.left ends.right; num = kept.num; den = kept.den })
 
 unfoldable pub pred_of : List Table → List RelationItem → ℕ → JoinItem → Result Pred QueryRefusal
 pred_of tables rs at j = do
   ends ← ends_of rs j
-  kept ← selectivity_of tables rs at j j.selectivity
-  Ok (record { low = min ends.left ends.right; high = max ends.left ends.right; num = kept.num; den = kept.den })
+  distinct ← most_distinct tables rs j
+  pred_over ends distinct at j
 
 -- ---- the query
 
@@ -125,9 +137,9 @@ unfoldable pub query_of : List Table → QueryItem → Result JoinQuery QueryRef
 query_of tables q = do
   size ← sized q.relations
   aliases ← aliases_of q.relations
-  known_tables ← checked (table_of tables) q.relations
-  known_aliases ← checked (ends_of q.relations) q.joins
-  known_columns ← checked (most_distinct tables q.relations) q.joins
+  known_tables ← each_of (table_of tables) q.relations
+  known_aliases ← each_of (ends_of q.relations) q.joins
+  known_columns ← each_of (most_distinct tables q.relations) q.joins
   two_ends ← checked apart q.joins
   rels ← all_of (rel_of tables) 0 q.relations
   preds ← all_of (pred_of tables q.relations) 0 q.joins

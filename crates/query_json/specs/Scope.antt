@@ -1,8 +1,8 @@
--- The relations of a query over the tables of a file.
+-- A query over the tables of its file.
 use Rattle.std.specs.Prelude.{List}
 use Rattle.query_json.specs.declared.file.Table.{Table}
-use Rattle.query_json.specs.declared.file.RelationItem.{RelationItem}
+use Rattle.query_json.specs.declared.file.QueryItem.{QueryItem}
 
 pub record Scope : Type 0 where
   pub tables : List Table
-  pub relations : List RelationItem
+  pub item : QueryItem

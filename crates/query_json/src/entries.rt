@@ -13,10 +13,7 @@ ghost use Rattle.query_json.specs.Unreached.{first_unreached};
 use crate::entry::{Entry, Named, Part};
 use crate::file::{QueryItem, RelationItem};
 use crate::items::Items;
-use crate::query::{
-    alias_names, all_preds, all_rels, check_aliases, check_apart, check_columns, check_size,
-    check_tables,
-};
+use crate::query::{alias_names, check_apart, check_size, known_tables};
 use crate::refusal::{QueryRefusal, Stop};
 use crate::scope::Scope;
 use crate::tables::Tables;
@@ -36,16 +33,15 @@ fn lists_of<'t, 'a>(
         (query_of tables.entry.now item.entry.now) }
 {
     let relations = item.relations.as_slice();
-    let joins = item.joins.as_slice();
     check_size(relations)?;
     let aliases = alias_names(alloc, relations)?;
-    check_tables(alloc, tables, relations)?;
-    let scope = Scope::new(tables, relations, aliases);
-    check_aliases(alloc, &scope, joins)?;
-    check_columns(alloc, &scope, joins)?;
-    check_apart(alloc, joins)?;
-    let rels = all_rels(alloc, tables, relations)?;
-    let preds = all_preds(alloc, &scope, joins)?;
+    let known = known_tables(alloc, tables, relations)?;
+    let scope = Scope::new(tables, item, aliases, known);
+    let ends = scope.all_ends(alloc)?;
+    let distinct = scope.all_distinct(alloc, ends.as_slice())?;
+    check_apart(alloc, item.joins.as_slice())?;
+    let rels = scope.all_rels(alloc)?;
+    let preds = scope.all_preds(alloc, ends.as_slice(), distinct.as_slice())?;
     Ok((rels, preds))
 }
 

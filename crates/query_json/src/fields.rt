@@ -1,22 +1,18 @@
 //! What must stand at a site.
-ghost use Rattle.std.specs.Prelude.{◌≡◌, ℕ, Result, option_map, option_and_then};
+ghost use Rattle.std.specs.Prelude.{◌≡◌, option_map, option_and_then};
 ghost use Rattle.std.specs.List.{list_all};
-ghost use Rattle.serde_json.specs.Data.{Data};
 ghost use Rattle.serde_json.specs.Find.{as_array};
 ghost use Rattle.query_json.specs.Answer.{Gives, GivesBy};
-ghost use Rattle.query_json.specs.declared.fault.FileFault.{FileFault};
 ghost use Rattle.query_json.specs.Tree.{seen, seen_items};
-ghost use Rattle.query_json.specs.Walk.{is_printable, is_name, as_name, as_whole, as_list, as_version, as_pair, as_ratio, object_at, present, required, optional, each};
+ghost use Rattle.query_json.specs.Walk.{is_printable, is_name, as_name, as_whole, as_list, as_version, as_pair, as_ratio, object_at, present, required, optional};
 
 use crate::NAME_MAX;
 use crate::fault::FileFault;
 use crate::file::Ratio;
-use crate::items::Items;
 use crate::label::Label;
 use crate::place::Place;
-use crate::tree::{is_null, is_object, items_of, text_of, whole_number};
+use crate::tree::{items_of, whole_number};
 use json::Value;
-use std::alloc::Global;
 
 fn is_printable(bytes: &[u8]) -> bool
     ensures { result ≡ list_all is_printable bytes.now }
@@ -39,7 +35,7 @@ fn is_name(text: &str) -> bool
 fn as_name<'a>(value: &Value<'a>) -> Option<Label<'a>>
     ensures { result ≡ as_name (seen value.now) }
 {
-    match text_of(value) {
+    match value.as_str() {
         Some(text) if is_name(text) => Some(Label::of(text)),
         _ => None,
     }
@@ -72,10 +68,9 @@ pub fn whole_of(member: Option<&Value>, limit: u64, place: Place) -> Result<u64,
 pub fn object_of(value: &Value, place: Place) -> Result<(), FileFault>
     ensures { Gives result (object_at place (seen value.now)) }
 {
-    if is_object(value) {
-        Ok(())
-    } else {
-        Err(FileFault::Shape(place))
+    match value {
+        Value::Object(_) => Ok(()),
+        _ => Err(FileFault::Shape(place)),
     }
 }
 
@@ -92,7 +87,7 @@ fn present<'v, 'a>(member: Option<&'v Value<'a>>) -> Option<&'v Value<'a>>
     ensures { option_map (λ v. seen v.now) result ≡ present (option_map (λ v. seen v.now) member.entry) }
 {
     match member {
-        Some(value) if !is_null(value) => Some(value),
+        Some(value) if !value.is_null() => Some(value),
         _ => None,
     }
 }
@@ -173,31 +168,4 @@ pub fn optional_ratio_of(member: Option<&Value>, place: Place) -> Result<Option<
         Some(ratio) => Ok(Some(ratio)),
         None => Err(FileFault::Shape(place)),
     }
-}
-
-/// A member of a list, which is read by its place.
-pub trait Element<'a>: Drop {
-    ghost reads: { ℕ → ℕ → Data → Result Self FileFault };
-
-    /// The member at the place `at` of a list that stands in the table or query `outer`.
-    fn read(alloc: Global, outer: u64, at: u64, value: &Value<'a>) -> Result<Self, FileFault>
-    where
-        Self: Sized,
-        ensures { Gives result (reads outer at (seen value.now)) };
-}
-
-/// The members of a list in order.
-pub fn elements<'a, T: Element<'a>>(
-    alloc: Global,
-    outer: u64,
-    values: &[Value<'a>],
-) -> Result<Items<T>, FileFault>
-    ensures { Gives result (each (T.reads outer) 0 (seen_items values.now)) }
-{
-    let mut items = Items::with_capacity(alloc, values.len())?;
-    for (at, value) in values.iter().enumerate() {
-        let element = T::read(alloc, outer, at as u64, value)?;
-        items.push(element)?;
-    }
-    Ok(items)
 }

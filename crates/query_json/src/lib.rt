@@ -1,13 +1,13 @@
 //! The workload file: where it breaks the format, and the queries that it holds, each accepted or refused.
 #![tactic(auto)]
 
-mod columns;
 mod entries;
 mod entry;
 mod fault;
 mod fields;
 mod file;
 mod items;
+mod known_table;
 mod label;
 pub mod laws;
 mod names;

@@ -1,13 +1,12 @@
 //! The tables of a file, found by name.
-ghost use Rattle.std.specs.Prelude.{◌≡◌, IfOk, map, option_and_then, option_map};
-ghost use Rattle.query_json.specs.Columns.{distinct_in};
+ghost use Rattle.std.specs.Prelude.{◌≡◌, IfOk, map, option_map};
 ghost use Rattle.query_json.specs.Entries.{table_names, tables_of};
 ghost use Rattle.query_json.specs.Answer.{Gives, GivesBy};
 ghost use Rattle.query_json.specs.Queries.{table_named};
 
-use crate::columns::Columns;
 use crate::fault::FileFault;
 use crate::file::Table;
+use crate::known_table::KnownTable;
 use crate::names::{HasName, Repeat, distinct, place_of};
 use indexmap::IndexSet;
 use std::alloc::{AllocError, Global};
@@ -24,9 +23,8 @@ impl<'a> HasName for Table<'a> {
 /// The tables of a file, which contracts see as their list.
 #[derive(Drop)]
 pub struct Tables<'t, 'a> {
-    tables: &'t [Table<'a>],
     names: IndexSet<&'t str>,
-    columns: Vec<Columns<'t, 'a>>,
+    tables: Vec<KnownTable<'t, 'a>>,
 }
 
 impl<'t, 'a> Model for Tables<'t, 'a> {
@@ -35,24 +33,23 @@ impl<'t, 'a> Model for Tables<'t, 'a> {
 
     ghost Value = { List Table };
 
-    ghost view = { λ t. t.tables.now };
+    ghost view = { λ t. t.tables.items };
 
-    ghost invariant = { λ t. (map (λ k. k.now) t.names.keys ≡ map (λ x. x.name) t.tables.now)
-        × (t.columns.items ≡ map (λ x. x.columns) t.tables.now) };
+    ghost invariant = { λ t. map (λ k. k.now) t.names.keys ≡ map (λ x. x.name) t.tables.items };
 }
 
-fn all_columns<'t, 'a>(
+fn all_known<'t, 'a>(
     alloc: Global,
     tables: &'t [Table<'a>],
-) -> Result<Vec<Columns<'t, 'a>>, AllocError>
-    ensures { IfOk result (λ v. v.items ≡ map (λ t. t.columns) tables.entry.now) }
+) -> Result<Vec<KnownTable<'t, 'a>>, AllocError>
+    ensures { IfOk result (λ v. v.items ≡ tables.entry.now) }
 {
-    let mut all = Vec::with_capacity(alloc, tables.len())?;
+    let mut known = Vec::with_capacity(alloc, tables.len())?;
     for table in tables {
-        let columns = Columns::new(alloc, table.columns.as_slice())?;
-        all.push(columns)?;
+        let one = KnownTable::new(alloc, table)?;
+        known.push(one)?;
     }
-    Ok(all)
+    Ok(known)
 }
 
 fn table_names<'t, 'a>(
@@ -75,28 +72,15 @@ impl<'t, 'a> Tables<'t, 'a> {
         ensures { Gives result (tables_of tables.entry.now) }
     {
         let names = table_names(alloc, tables)?;
-        let columns = all_columns(alloc, tables)?;
-        Ok(Tables {
-            tables,
-            names,
-            columns,
-        })
+        let tables = all_known(alloc, tables)?;
+        Ok(Tables { names, tables })
     }
 
     /// The table of a name.
-    pub fn named(&self, name: &str) -> Option<&'t Table<'a>>
+    pub fn named(&self, name: &str) -> Option<&KnownTable<'t, 'a>>
         ensures { option_map (λ t. t.now) result ≡ table_named self.now name.now }
     {
         let number = place_of(&self.names, name)?;
         self.tables.get(number)
-    }
-
-    /// The distinct count of the first column of a name, in the table of a name.
-    pub fn distinct(&self, table: &str, column: &str) -> Option<u64>
-        ensures { result ≡ option_and_then (λ t. distinct_in column.now t.columns) (table_named self.now table.now) }
-    {
-        let number = place_of(&self.names, table)?;
-        let columns = self.columns.get(number)?;
-        columns.distinct(column)
     }
 }

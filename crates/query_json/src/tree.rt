@@ -1,9 +1,9 @@
 //! The bytes of a file as a tree over its text, which contracts see as the data that `serde_json` makes of it.
-ghost use Rattle.std.specs.Prelude.{◌≡◌, IfOk, is_some, option_map, option_and_then};
+ghost use Rattle.std.specs.Prelude.{◌≡◌, IfOk, option_map, option_and_then};
 ghost use Rattle.json.specs.Json.{if_last, value};
 ghost use Rattle.json.specs.Lex.{tokens};
 ghost use Rattle.json.specs.Value.{value_view, items_view, members_view};
-ghost use Rattle.serde_json.specs.Find.{get, as_null, as_number, as_u64, as_str, as_array, as_object};
+ghost use Rattle.serde_json.specs.Find.{get, as_number, as_u64, as_array};
 ghost use Rattle.serde_json.specs.Read.{max_depth, read};
 ghost use Rattle.query_json.specs.Answer.{GivesBy};
 ghost use Rattle.query_json.specs.Tree.{items_fit, members_fit, numbers_fit, seen, seen_items};
@@ -113,13 +113,6 @@ pub fn member<'v, 'a>(value: &'v Value<'a>, name: &str) -> Option<&'v Value<'a>>
     value.get(name)
 }
 
-/// The text of a string.
-pub fn text_of<'a>(value: &Value<'a>) -> Option<&'a str>
-    ensures { option_map (λ s. s.now) result ≡ as_str (seen value.now) }
-{
-    value.as_str()
-}
-
 /// The value of a whole number from 0 below 2^64, which has no point and no exponent.
 pub fn whole_number(value: &Value) -> Option<u64>
     ensures { result ≡ option_and_then as_u64 (as_number (seen value.now)) }
@@ -138,21 +131,4 @@ pub fn items_of<'v, 'a>(value: &'v Value<'a>) -> Option<&'v [Value<'a>]>
         Value::Array(items) => Some(items.as_slice()),
         _ => None,
     }
-}
-
-/// Whether the value is an object.
-pub fn is_object(value: &Value) -> bool
-    ensures { result ≡ is_some (as_object (seen value.now)) }
-{
-    match value {
-        Value::Object(_) => true,
-        _ => false,
-    }
-}
-
-/// Whether the value is null.
-pub fn is_null(value: &Value) -> bool
-    ensures { result ≡ is_some (as_null (seen value.now)) }
-{
-    value.is_null()
 }

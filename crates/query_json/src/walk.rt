@@ -1,15 +1,17 @@
 //! Reading the whole file.
-ghost use Rattle.std.specs.Prelude.{◌≡◌, IfOk, Result, option_map};
+ghost use Rattle.std.specs.Prelude.{◌≡◌, ℕ, IfOk, Result, option_map};
+ghost use Rattle.serde_json.specs.Data.{Data};
+ghost use Rattle.query_json.specs.declared.fault.FileFault.{FileFault};
 ghost use Rattle.query_json.specs.Answer.{Gives};
 ghost use Rattle.query_json.specs.Limits.{IsFileWithin};
-ghost use Rattle.query_json.specs.Tree.{seen};
-ghost use Rattle.query_json.specs.Walk.{column_at, columns_at, table_at, relation_at, selectivity_at, join_at, joins_at, query_at, file_at, file_of};
+ghost use Rattle.query_json.specs.Tree.{seen, seen_items};
+ghost use Rattle.query_json.specs.Walk.{each, column_at, columns_at, table_at, relation_at, selectivity_at, join_at, joins_at, query_at, file_at, file_of};
 
 use crate::COLUMNS_MAX;
 use crate::fault::FileFault;
 use crate::fields::{
-    Element, array_of, elements, name_of, object_of, optional_array_of, optional_name_of,
-    optional_ratio_of, version_of, whole_of,
+    array_of, name_of, object_of, optional_array_of, optional_name_of, optional_ratio_of,
+    version_of, whole_of,
 };
 use crate::file::{Column, File, JoinItem, QueryItem, Ratio, RelationItem, Table};
 use crate::items::Items;
@@ -23,6 +25,33 @@ fn place(site: Site, i: u64, j: u64) -> Place
     ensures { result ≡ record { site = site; i = i; j = j } }
 {
     Place { site, i, j }
+}
+
+/// A member of a list, which is read by its place.
+pub trait Element<'a>: Drop {
+    ghost reads: { ℕ → ℕ → Data → Result Self FileFault };
+
+    /// The member at the place `at` of a list that stands in the table or query `outer`.
+    fn read(alloc: Global, outer: u64, at: u64, value: &Value<'a>) -> Result<Self, FileFault>
+    where
+        Self: Sized,
+        ensures { Gives result (reads outer at (seen value.now)) };
+}
+
+/// The members of a list in order.
+pub fn elements<'a, T: Element<'a>>(
+    alloc: Global,
+    outer: u64,
+    values: &[Value<'a>],
+) -> Result<Items<T>, FileFault>
+    ensures { Gives result (each (T.reads outer) 0 (seen_items values.now)) }
+{
+    let mut items = Items::with_capacity(alloc, values.len())?;
+    for (at, value) in values.iter().enumerate() {
+        let element = T::read(alloc, outer, at as u64, value)?;
+        items.push(element)?;
+    }
+    Ok(items)
 }
 
 impl<'a> Element<'a> for Column<'a> {

@@ -10,7 +10,7 @@ use Rattle.dpe_base.specs.Queries.{is_fraction}
 use Rattle.query_json.specs.declared.file.Table.{Table as TableItem}
 use Rattle.query_json.specs.declared.refusal.QueryRefusal.{QueryRefusal}
 use Rattle.query_json.specs.declared.refusal.QueryRefusal.TheVariants.{UnknownAlias}
-use Rattle.query_json.specs.Queries.{all_of, apart, checked, count_of, ends_of, filter_of, most_distinct, pred_of, rel_of, relation_number, table_named, table_of}
+use Rattle.query_json.specs.Queries.{all_of, apart, checked, count_of, each_of, ends_of, filter_of, most_distinct, pred_of, rel_of, relation_number, table_named, table_of}
 use Rattle.workload_gen.specs.declared.sample.Table.{Table}
 use Rattle.workload_gen.specs.declared.sample.Relation.{Relation}
 use Rattle.workload_gen.specs.Values.{alias, column_name, table_name}
@@ -53,6 +53,12 @@ all_numbered f make P Q gives at (x ∷ xs) h =
     let first = gives at at x h.0 in
     let rest = all_numbered f make P Q gives (at + 1) xs h.1 in
     (first.0 ∷ rest.0, rw (first.1, rest.1) refl, (first.2, rest.2))
+
+pub each_numbered : {A T B : Type 0} (f : T → Result B QueryRefusal) (make : ℕ → A → T) (P : A → Type 0)
+    → ((k : ℕ) (x : A) → P x → (y : B) × (f (make k x) ≡ Ok y)) → (xs : List A) → Each P xs
+    → (ys : List B) × (each_of f (numbered make 0 xs) ≡ Ok ys) × Both (λ (x : A) (y : B). Unit {0}) xs ys
+each_numbered f make P passes xs h =
+    all_numbered (λ at. f) make P (λ x y. Unit {0}) (λ at k x p. let met = passes k x p in (met.0, met.1, tt)) 0 xs h
 
 -- ---- relations
 
@@ -133,6 +139,6 @@ pred_by tables eight each relations few rels at left right None l r is =
     (record { low = min left right; high = max left right; num = 1; den = d.0 }, rw (ends_by relations few left right None l r, d.1) refl, (refl, refl))
 pred_by tables eight each relations few rels at left right (Some d) l r is = (
   record { low = min left right; high = max left right; num = 1; den = d },
-  rw (ends_by relations few left right (Some d) l r, fraction_is 1 d (lit≤ tt) is.0 (omega (arith, is.1))) refl,
+  rw (ends_by relations few left right (Some d) l r, (distinct_by tables eight each relations few rels left right (Some d) l r).1, fraction_is 1 d (lit≤ tt) is.0 (omega (arith, is.1))) refl,
   (refl, refl),
 )

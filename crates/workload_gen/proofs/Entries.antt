@@ -27,7 +27,7 @@ use Rattle.workload_gen.specs.Accepted.{HoldsEightQueries, IsAccepted}
 use Rattle.workload_gen.specs.Draws.{sample_of, seeded}
 use Rattle.workload_gen.specs.Sample.{Sample, SampleQuery}
 use Rattle.workload_gen.specs.Values.{alias, join_value, join_value_by, query_value, relation_value, table_name, table_value, values, workload_value}
-use Rattle.workload_gen.proofs.Accepted.{Both, all_numbered, alias_naming, apart_by, both_length, checked_numbered, distinct_by, ends_by, pred_by, rel_ok, table_naming, table_of_ok}
+use Rattle.workload_gen.proofs.Accepted.{Both, all_numbered, alias_naming, apart_by, both_length, checked_numbered, distinct_by, each_numbered, ends_by, pred_by, rel_ok, table_naming, table_of_ok}
 use Rattle.workload_gen.proofs.Connected.{IsPredOf, all_reached}
 use Rattle.workload_gen.proofs.FileOf.{file_item, file_read, join_item, numbered, query_item, relation_item, table_item}
 use Rattle.workload_gen.proofs.Found.{distinct}
@@ -52,11 +52,11 @@ query_ok tables eight each j query h =
     let n = length query.relations in
     let size : sized rs ≡ Ok tt = sized_ok rs (rw (numbered_length relation_item 0 query.relations) h.some) (rw (numbered_length relation_item 0 query.relations) h.few) in
     let names = distinct 12 alias (λ r. r.alias) relation_item alias_naming query.relations h.few in
-    let tables_known : checked (table_of ts) rs ≡ Ok tt = checked_numbered (table_of ts) relation_item IsRelation (table_of_ok tables eight each) 0 query.relations h.relations in
-    let aliases_known : checked (ends_of rs) js ≡ Ok tt = checked_numbered (ends_of rs) join_item (IsJoin n)
-    (λ k join is. (record { left = join.left; right = join.right }, ends_by query.relations h.few join.left join.right join.one_in is.left is.right)) 0 query.joins h.joins in
-    let columns_known : checked (most_distinct ts rs) js ≡ Ok tt = checked_numbered (most_distinct ts rs) join_item (IsJoin n)
-    (λ k join is. distinct_by tables eight each query.relations h.few h.relations join.left join.right join.one_in is.left is.right) 0 query.joins h.joins in
+    let tables_known = each_numbered (table_of ts) relation_item IsRelation (table_of_ok tables eight each) query.relations h.relations in
+    let aliases_known = each_numbered (ends_of rs) join_item (IsJoin n)
+    (λ k join is. (record { left = join.left; right = join.right }, ends_by query.relations h.few join.left join.right join.one_in is.left is.right)) query.joins h.joins in
+    let columns_known = each_numbered (most_distinct ts rs) join_item (IsJoin n)
+    (λ k join is. distinct_by tables eight each query.relations h.few h.relations join.left join.right join.one_in is.left is.right) query.joins h.joins in
     let two_ends : checked apart js ≡ Ok tt = checked_numbered apart join_item (IsJoin n)
     (λ k join is. (tt, apart_by join.left join.right join.one_in (let l = is.left in let f = h.few in omega arith) (let r = is.right in let f = h.few in omega arith) is.apart)) 0 query.joins h.joins in
     let rels = all_numbered (rel_of ts) relation_item IsRelation (λ x y. Unit {0}) (rel_ok tables eight each) 0 query.relations h.relations in
@@ -66,7 +66,7 @@ query_ok tables eight each j query h =
     let as_parts : Both IsPredOf (h.tree ++ h.extra) preds.0 = subst (λ joins. Both IsPredOf joins preds.0) h.parts preds.2 in
     let connected : first_unreached q ≡ None = all_reached q h.tree h.extra h.tree_joins as_parts (both_length (λ x y. Unit {0}) query.relations rels.0 rels.2 ∙ sym h.tree_size) in (
       record { query = q; aliases = map (λ r. r.alias) rs },
-      rw (size, names.1, tables_known, aliases_known, columns_known, two_ends, rels.1, preds.1, connected) refl,
+      rw (size, names.1, tables_known.1, aliases_known.1, columns_known.1, two_ends, rels.1, preds.1, connected) refl,
     )
 
 -- ---- the entries

@@ -8,10 +8,10 @@ pub returns-in-Some : goal.returns-in-Some
 returns-in-Some c =
     rw (← c.self.view_is)
     (ap (found (UnknownAlias c.args.alias.now))
-    (position_key (λ r. r.alias) c.self.inside.relations.now _ c.args.alias.now (Some c.in-Some.number) c.self.invariant (sym c.in-Some.is ∙ rw (← c.text.ensures) c.place_of.ensures)))
+    (position_key (λ r. r.alias) c.self.inside.item.now.relations _ c.args.alias.now (Some c.in-Some.number) c.self.invariant.0 (sym c.in-Some.is ∙ rw (← c.text.ensures) c.place_of.ensures)))
 
 pub returns-in_ok-alias-in-None : goal.returns-in_ok-alias-in-None
 returns-in_ok-alias-in-None c =
     rw (← c.self.view_is, c.in_ok-alias-in-None.ensures)
     (ap (found (UnknownAlias c.args.alias.now))
-    (position_key (λ r. r.alias) c.self.inside.relations.now _ c.args.alias.now None c.self.invariant (sym c.in-None.is ∙ rw (← c.text.ensures) c.place_of.ensures)))
+    (position_key (λ r. r.alias) c.self.inside.item.now.relations _ c.args.alias.now None c.self.invariant.0 (sym c.in-None.is ∙ rw (← c.text.ensures) c.place_of.ensures)))

@@ -1,33 +1,33 @@
-//! The columns of a table, found by name.
+//! A table of the file, whose columns are found by name.
 ghost use Rattle.std.specs.Prelude.{◌≡◌, ℕ, List, IfOk};
 ghost use Rattle.std.specs.Str.{bytes_eq};
 ghost use Rattle.indexmap.specs.IndexMap.{get_by};
 ghost use Rattle.query_json.specs.Columns.{distinct_in};
 
-use crate::file::Column;
+use crate::file::{Column, Table};
 use indexmap::IndexMap;
 use std::alloc::{AllocError, Global};
 use std::marker::Model;
 
-/// The columns of a table, which contracts see as their list.
+/// A table and the distinct count of each of its columns by name, which contracts see as the table.
 #[derive(Drop)]
-pub struct Columns<'t, 'a> {
-    columns: &'t [Column<'a>],
+pub struct KnownTable<'t, 'a> {
+    table: &'t Table<'a>,
     counts: IndexMap<&'t str, u64>,
 }
 
-impl<'t, 'a> Model for Columns<'t, 'a> {
+impl<'t, 'a> Model for KnownTable<'t, 'a> {
     ghost use Rattle.std.specs.Prelude.{◌≡◌, ℕ, List};
     ghost use Rattle.std.specs.Str.{bytes_eq};
     ghost use Rattle.indexmap.specs.IndexMap.{get_by};
-    ghost use Rattle.query_json.specs.declared.file.Column.{Column};
+    ghost use Rattle.query_json.specs.declared.file.Table.{Table};
     ghost use Rattle.query_json.specs.Columns.{distinct_in};
 
-    ghost Value = { List Column };
+    ghost Value = { Table };
 
-    ghost view = { λ c. c.columns.now };
+    ghost view = { λ t. t.table.now };
 
-    ghost invariant = { λ c. (q : List ℕ) → get_by (λ k. bytes_eq q k.now) c.counts ≡ distinct_in q c.columns.now };
+    ghost invariant = { λ t. (q : List ℕ) → get_by (λ k. bytes_eq q k.now) t.counts ≡ distinct_in q t.table.now.columns };
 }
 
 fn column_counts<'t, 'a>(
@@ -48,19 +48,26 @@ fn column_counts<'t, 'a>(
     Ok(counts)
 }
 
-impl<'t, 'a> Columns<'t, 'a> {
-    /// The columns of a table, which may have one name twice.
-    pub fn new(alloc: Global, columns: &'t [Column<'a>]) -> Result<Columns<'t, 'a>, AllocError>
-        ensures { IfOk result (λ c. c ≡ columns.entry.now) }
+impl<'t, 'a> KnownTable<'t, 'a> {
+    /// The table, which may have two columns of one name.
+    pub fn new(alloc: Global, table: &'t Table<'a>) -> Result<KnownTable<'t, 'a>, AllocError>
+        ensures { IfOk result (λ t. t ≡ table.entry.now) }
     {
-        let counts = column_counts(alloc, columns)?;
-        Ok(Columns { columns, counts })
+        let counts = column_counts(alloc, table.columns.as_slice())?;
+        Ok(KnownTable { table, counts })
+    }
+
+    /// The rows of the table.
+    pub fn rows(&self) -> u64
+        ensures { result ≡ self.now.rows }
+    {
+        self.table.rows
     }
 
     /// The distinct count of the first column of a name.
-    pub fn distinct(&self, name: &str) -> Option<u64>
-        ensures { result ≡ distinct_in name.now self.now }
+    pub fn distinct(&self, column: &str) -> Option<u64>
+        ensures { result ≡ distinct_in column.now self.now.columns }
     {
-        self.counts.get(name).copied()
+        self.counts.get(column).copied()
     }
 }
