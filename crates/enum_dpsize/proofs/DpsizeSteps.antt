@@ -1,17 +1,19 @@
 -- One step of the stream by sizes.
-use Rattle.std.proofs.Common.{add-one, ◌≡◌, ℕ, suc, ◌+◌, ◌-◌, ◌*◌, ◌/◌, ◌<◌, ◌≤◌, inl, inr, arith, sym, ◌∙◌, ap, subst, true, List, [], ◌∷◌, ◌++◌, length, get_or, drop, nat_eq, append_assoc}
+use Rattle.std.proofs.Common.{add-one, ◌≡◌, ℕ, suc, ◌+◌, ◌-◌, ◌*◌, ◌/◌, ◌<◌, ◌≤◌, ◌^◌, inl, inr, arith, sym, ◌∙◌, ap, subst, true, List, [], ◌∷◌, ◌++◌, length, get_or, drop, nat_eq, append_assoc}
 use Rattle.std.specs.Prelude.{Some}
 use Rattle.std.specs.List.{flat_map, range_with_len}
 use Rattle.std.proofs.lemmas.Bool.{eqb-true}
 use Rattle.std.proofs.lemmas.List.{drop_all}
+use Rattle.dpe_base.specs.declared.TheConstants.{N_MAX}
 use Rattle.dpe_base.specs.declared.pair.Pair.{Pair}
-use Rattle.join_graph.specs.Graphs.{JoinGraph}
+use Rattle.join_graph.specs.Graphs.{JoinGraph, IsGraph}
 use Rattle.pair_stream.specs.Parts.{part}
 use Rattle.pair_stream.proofs.DpsubSteps.{one_on}
-use Rattle.enum_dpsize.specs.Dpsize.{pairs_sized, start_at, seq_dpsize}
-use Rattle.enum_dpsize.specs.DpsizeLeft.{IsDpsizeState, NextSizes, rows_from, dpsize_left}
-use Rattle.enum_dpsize.proofs.RowLaws.{row_begins}
-use Rattle.enum_dpsize.proofs.PartLists.{parts_length, part_read}
+use Rattle.enum_dpsize.specs.Dpsize.{pairs_sized, pairs_with, start_at, seq_dpsize}
+use Rattle.enum_dpsize.specs.declared.cursor.Cursor.{Cursor}
+use Rattle.enum_dpsize.specs.DpsizeLeft.{IsCursor, IsDpsizeState, NextSizes, rows_from, dpsize_left, left_at, is_same, sizes_rank}
+use Rattle.enum_dpsize.proofs.RowLaws.{row_begins, rows_over, rows_taken, rows_next}
+use Rattle.enum_dpsize.proofs.PartLists.{parts_length, part_read, part_few}
 
 abbrev of_size : JoinGraph → ℕ → List Pair
 of_size g s = flat_map (λ k. pairs_sized g k (s - k)) (range_with_len 1 (s / 2))
@@ -70,6 +72,10 @@ rows_at g s k i j = rows_from g (part g (s - k)) (nat_eq k (s - k)) (drop i (par
 pub left_taken : (g : JoinGraph) (s k i j i' j' : ℕ) (p : Pair) → rows_at g s k i j ≡ p ∷ rows_at g s k i' j' → dpsize_left g s k i j ≡ p ∷ dpsize_left g s k i' j'
 unfolding dpsize_left
 left_taken g s k i j i' j' p e = ap (λ xs. xs ++ (smalls_after g s k ++ sizes_after g s)) e
+
+left_passed : (g : JoinGraph) (s k i j i' j' : ℕ) → rows_at g s k i j ≡ rows_at g s k i' j' → dpsize_left g s k i j ≡ dpsize_left g s k i' j'
+unfolding dpsize_left
+left_passed g s k i j i' j' e = ap (λ xs. xs ++ (smalls_after g s k ++ sizes_after g s)) e
 
 pub left_small : (g : JoinGraph) (s k i j : ℕ) → rows_at g s k i j ≡ [] → k * 2 + 2 ≤ s → dpsize_left g s k i j ≡ dpsize_left g s (suc k) 0 (start_at (nat_eq (suc k) (s - suc k)) 0)
 unfolding dpsize_left
@@ -131,53 +137,83 @@ left_start_one g i j e l =
 
 -- ---- the two lists that the code reads
 
-pub first_known : (g : JoinGraph) (parts : List (List ℕ)) (s k : ℕ) → IsDpsizeState g parts s k → (1 ≤ k) × (k ≤ length parts)
-first_known g parts s k f = (f.small, omega (arith, f.fits, parts_length g parts f.made))
+module _ (g : JoinGraph) (parts : List (List ℕ)) (c : Cursor) (f : IsDpsizeState g parts c) where
+  pub first_known : (1 ≤ c.small) × (c.small ≤ length parts)
+  first_known = (f.cursor.small, omega (arith, f.cursor.fits, parts_length g parts f.made))
 
-pub second_known : (g : JoinGraph) (parts : List (List ℕ)) (s k : ℕ) → IsDpsizeState g parts s k → (1 ≤ s - k) × (s - k ≤ length parts)
-second_known g parts s k f = (omega (arith, f.small, f.half), omega (arith, f.known, parts_length g parts f.made))
+  pub second_known : (1 ≤ c.size - c.small) × (c.size - c.small ≤ length parts)
+  second_known = (omega (arith, f.cursor.small, f.cursor.half), omega (arith, f.cursor.known, parts_length g parts f.made))
 
-pub first_list : (g : JoinGraph) (parts : List (List ℕ)) (s k : ℕ) (xs : List ℕ) → IsDpsizeState g parts s k → xs ≡ get_or parts (k - 1) xs → xs ≡ part g k
-first_list g parts s k xs f h = part_read g parts k xs f.made f.small f.fits h
+  pub first_list : (xs : List ℕ) → xs ≡ get_or parts (c.small - 1) xs → xs ≡ part g c.small
+  first_list xs h = part_read g parts c.small xs f.made f.cursor.small f.cursor.fits h
 
-pub second_list : (g : JoinGraph) (parts : List (List ℕ)) (s k : ℕ) (ys : List ℕ) → IsDpsizeState g parts s k → ys ≡ get_or parts (s - k - 1) ys → ys ≡ part g (s - k)
-second_list g parts s k ys f h =
-    part_read g parts (s - k) ys f.made (omega (arith, f.small, f.half)) (omega (arith, f.known)) h
-
-pub one_list : (g : JoinGraph) (parts : List (List ℕ)) (s k : ℕ) (xs ys : List ℕ) → xs ≡ part g k → ys ≡ part g (s - k) → nat_eq k (s - k) ≡ true → xs ≡ ys
-one_list g parts s k xs ys ex ey t = ex ∙ ap (part g) (eqb-true k (s - k) t) ∙ sym ey
+  pub second_list : (ys : List ℕ) → ys ≡ get_or parts (c.size - c.small - 1) ys → ys ≡ part g (c.size - c.small)
+  second_list ys h = part_read g parts (c.size - c.small) ys f.made (omega (arith, f.cursor.small, f.cursor.half)) (omega (arith, f.cursor.known)) h
 
 -- ---- what the code of a step needs
 
-pub taken_here : (g : JoinGraph) (s k : ℕ) (xs ys : List ℕ) (i j i' j' : ℕ) (p : Pair) → xs ≡ part g k → ys ≡ part g (s - k) → rows_from g ys (nat_eq k (s - k)) (drop i xs) j ≡ p ∷ rows_from g ys (nat_eq k (s - k)) (drop i' xs) j' → dpsize_left g s k i j ≡ p ∷ dpsize_left g s k i' j'
-taken_here g s k xs ys i j i' j' p ex ey e =
-    left_taken g s k i j i' j' p
-    (subst (λ zs. rows_from g (part g (s - k)) (nat_eq k (s - k)) (drop i zs) j ≡ p ∷ rows_from g (part g (s - k)) (nat_eq k (s - k)) (drop i' zs) j') ex
-    (subst (λ zs. rows_from g zs (nat_eq k (s - k)) (drop i xs) j ≡ p ∷ rows_from g zs (nat_eq k (s - k)) (drop i' xs) j') ey e))
+-- a row that is left gives a pair, or is over
+module _ (g : JoinGraph) (c : Cursor) (xs ys : List ℕ) (x j : ℕ) (ex : xs ≡ part g c.small) (ey : ys ≡ part g (c.size - c.small)) (l : c.row < length xs) (e : x ≡ get_or xs c.row x) where
+  pub taken_here : (p : Pair) → pairs_with g (drop c.next ys) x ≡ p ∷ pairs_with g (drop j ys) x → left_at g c ≡ p ∷ dpsize_left g c.size c.small c.row j
+  taken_here p h =
+      left_taken g c.size c.small c.row c.next c.row j p
+      (subst (λ zs. rows_from g (part g (c.size - c.small)) (is_same c) (drop c.row zs) c.next ≡ p ∷ rows_from g (part g (c.size - c.small)) (is_same c) (drop c.row zs) j) ex
+      (subst (λ zs. rows_from g zs (is_same c) (drop c.row xs) c.next ≡ p ∷ rows_from g zs (is_same c) (drop c.row xs) j) ey (rows_taken g xs ys (is_same c) c.row c.next j x p l e h)))
 
-pub over_here : (g : JoinGraph) (s k : ℕ) (xs ys : List ℕ) (i j : ℕ) → xs ≡ part g k → ys ≡ part g (s - k) → rows_from g ys (nat_eq k (s - k)) (drop i xs) j ≡ [] → rows_at g s k i j ≡ []
-over_here g s k xs ys i j ex ey e =
-    subst (λ zs. rows_from g (part g (s - k)) (nat_eq k (s - k)) (drop i zs) j ≡ []) ex
-    (subst (λ zs. rows_from g zs (nat_eq k (s - k)) (drop i xs) j ≡ []) ey e)
+  pub passed_here : pairs_with g (drop c.next ys) x ≡ [] → j ≡ start_at (is_same c) (c.row + 1) → left_at g c ≡ dpsize_left g c.size c.small (c.row + 1) j
+  passed_here h n =
+      left_passed g c.size c.small c.row c.next (c.row + 1) j
+      (subst (λ zs. rows_from g (part g (c.size - c.small)) (is_same c) (drop c.row zs) c.next ≡ rows_from g (part g (c.size - c.small)) (is_same c) (drop (c.row + 1) zs) j) ex
+      (subst (λ zs. rows_from g zs (is_same c) (drop c.row xs) c.next ≡ rows_from g zs (is_same c) (drop (c.row + 1) xs) j) ey
+      (rows_next g xs ys (is_same c) c.row c.next j x l e h one n)))
+    where
+      one : is_same c ≡ true → xs ≡ ys
+      one t = ex ∙ ap (part g) (eqb-true c.small (c.size - c.small) t) ∙ sym ey
 
-pub step_sizes : (g : JoinGraph) (parts : List (List ℕ)) (s k i j n s' k' j' : ℕ) → IsDpsizeState g parts s k → n ≡ g.n → rows_at g s k i j ≡ [] → NextSizes s k n (Some (s', k')) → j' ≡ start_at (nat_eq k' (s' - k')) 0 → IsDpsizeState g parts s' k' × (dpsize_left g s k i j ≡ dpsize_left g s' k' 0 j')
-step_sizes g parts s k i j n s' k' j' f en e next ej =
-    elim next [
-      | inl h ↦ (
-        record { graph = f.graph; made = f.made; small = omega (arith, h.2); half = omega (arith, h.0, h.1, h.2); known = omega (arith, h.1, h.2, f.known); fits = small_fits f h.0 h.2 },
-        left_small g s k i j e h.0
-            ∙ ap (λ (x : ℕ). dpsize_left g x (suc k) 0 (start_at (nat_eq (suc k) (x - suc k)) 0)) (sym h.1)
-            ∙ ap (λ (x : ℕ). dpsize_left g s' x 0 (start_at (nat_eq x (s' - x)) 0)) (one_on _ _ h.2)
-            ∙ ap (dpsize_left g s' k' 0) (sym ej),
-      )
-      | inr h ↦ (
-        record { graph = f.graph; made = f.made; small = omega (arith, h.3); half = omega (arith, h.2, h.3, f.small, f.half); known = omega (arith, h.1, h.2, h.3, en); fits = omega (arith, h.3, f.graph.some) },
-        left_size g s k i j e h.0 (omega (arith, h.1, en)) (omega (arith, f.small, f.half))
+-- the sizes have no row left
+module _ (g : JoinGraph) (c : Cursor) (o : length (part g c.small) ≤ c.row) where
+  none_here : rows_at g c.size c.small c.row c.next ≡ []
+  none_here = rows_over g (part g c.small) (part g (c.size - c.small)) (is_same c) c.row c.next o
+
+  pub end_here : c.size < c.small * 2 + 2 → g.n ≤ c.size → left_at g c ≡ []
+  end_here l m = left_end g c.size c.small c.row c.next none_here l m
+
+  pub step_sizes : (n s k j : ℕ) → n ≡ g.n → 1 ≤ c.small → c.small * 2 ≤ c.size → NextSizes c.size c.small n (Some (s, k)) → j ≡ start_at (nat_eq k (s - k)) 0 → dpsize_left g s k 0 j ≡ left_at g c
+  step_sizes n s k j en small half next ej =
+      sym (elim next [
+        | inl h ↦
+            left_small g c.size c.small c.row c.next none_here h.0
+            ∙ ap (λ (x : ℕ). dpsize_left g x (suc c.small) 0 (start_at (nat_eq (suc c.small) (x - suc c.small)) 0)) (sym h.1)
+            ∙ ap (λ (x : ℕ). dpsize_left g s x 0 (start_at (nat_eq x (s - x)) 0)) (one_on _ _ h.2)
+            ∙ ap (dpsize_left g s k 0) (sym ej)
+        | inr h ↦
+            left_size g c.size c.small c.row c.next none_here h.0 (omega (arith, h.1, en)) (omega (arith, small, half))
             ∙ ap (λ (x : ℕ). dpsize_left g x 1 0 (start_at (nat_eq 1 (x - 1)) 0)) (one_on _ _ h.2)
-            ∙ ap (λ (x : ℕ). dpsize_left g s' x 0 (start_at (nat_eq x (s' - x)) 0)) (sym h.3)
-            ∙ ap (dpsize_left g s' k' 0) (sym ej),
-      )
-    ]
-  where
-    small_fits : IsDpsizeState g parts s k → k * 2 + 2 ≤ s → k' ≡ k + 1 → k' ≤ g.n
-    small_fits f l h = omega (arith, f.known, l, h)
+            ∙ ap (λ (x : ℕ). dpsize_left g s x 0 (start_at (nat_eq x (s - x)) 0)) (sym h.3)
+            ∙ ap (dpsize_left g s k 0) (sym ej)
+      ])
+
+-- ---- the loop of a stream ends
+
+abbrev pub rank : JoinGraph → Cursor → ℕ
+rank g c = sizes_rank g c * (2 ^ N_MAX + 1) + (length (part g c.small) - c.row)
+
+pub rank_by_sizes : (g : JoinGraph) (c d : Cursor) → IsGraph g → sizes_rank g d < sizes_rank g c → rank g d < rank g c
+rank_by_sizes g c d ok l = omega (arith, l, part_few g d.small ok)
+
+-- d is c in the next row
+module _ (g : JoinGraph) (c d : Cursor) (size : d.size ≡ c.size) (small : d.small ≡ c.small) (row : d.row ≡ c.row + 1) where
+  rows_same : length (part g d.small) ≡ length (part g c.small)
+  rows_same = ap (λ k. length (part g k)) small
+
+  pub row_fits : IsCursor g c → c.row < length (part g c.small) → IsCursor g d
+  row_fits f l = record { graph = f.graph; small = omega (arith, small, f.small); half = omega (arith, size, small, f.half); known = omega (arith, size, small, f.known); fits = omega (arith, small, f.fits); row_known = omega (arith, row, rows_same, l) }
+
+  pub row_falls : c.row < length (part g c.small) → rank g d < rank g c
+  row_falls l = omega (arith, size, small, row, rows_same, l)
+
+  pub row_left : dpsize_left g c.size c.small (c.row + 1) d.next ≡ left_at g d
+  row_left =
+      ap (λ (x : ℕ). dpsize_left g x c.small (c.row + 1) d.next) (sym size)
+      ∙ ap (λ (x : ℕ). dpsize_left g d.size x (c.row + 1) d.next) (sym small)
+      ∙ ap (λ (x : ℕ). dpsize_left g d.size d.small x d.next) (sym row)

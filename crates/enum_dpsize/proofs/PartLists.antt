@@ -127,13 +127,12 @@ pub part_read : (g : JoinGraph) (parts : List (List ℕ)) (k : ℕ) (xs : List �
 part_read g parts k xs e l m h =
     h ∙ ap (λ ps. get_or ps (k - 1) xs) e ∙ get_or-map-range_with_len (part g) 1 g.n (k - 1) k xs (omega arith) (omega arith)
 
--- a cursor at the end of what was read is at the end of the part
-pub read_to_end : (xs ys : List ℕ) (i : ℕ) → ys ≡ xs → i ≡ length ys → length xs ≤ i
-read_to_end xs ys i e h = omega (arith, ap length e, h)
-
 pub part_connected : (g : JoinGraph) (k : ℕ) (xs : List ℕ) → IsGraph g → xs ≡ part g k → All (Connected g) xs
 part_connected g k xs ok e i d l =
     ((part_has g ok k (get_or xs i d)).0 (subst (λ ys. Contains ys (get_or xs i d)) e (Contains-get_or xs i d l))).connected
+
+pub set_connected : (g : JoinGraph) (k : ℕ) (xs : List ℕ) (i x : ℕ) → IsGraph g → xs ≡ part g k → i < length xs → x ≡ get_or xs i x → Connected g x
+set_connected g k xs i x ok e l h = subst (Connected g) (sym h) (part_connected g k xs ok e i x l)
 
 -- ---- the parts of some graph
 

@@ -1,5 +1,5 @@
 -- The probes that are left, row by row and size by size.
-use Rattle.std.proofs.Common.{add-one, ◌≡◌, ℕ, suc, ◌+◌, ◌-◌, ◌*◌, ◌/◌, ◌^◌, ◌<◌, ◌≤◌, inl, inr, arith, sym, ◌∙◌, ap, subst, Bool, List, length, get_or, slice_index, nat_eq, nat_lt}
+use Rattle.std.proofs.Common.{add-one, ◌≡◌, ℕ, suc, ◌+◌, ◌-◌, ◌*◌, ◌/◌, ◌^◌, ◌<◌, ◌≤◌, inl, inr, arith, refl, sym, ◌∙◌, ap, subst, Bool, List, length, get_or, slice_index, nat_eq, nat_lt}
 use Rattle.std.specs.Prelude.{Some}
 use Rattle.std.specs.List.{range_with_len, sum_by}
 use Rattle.std.proofs.lemmas.Bool.{cases_lt, cond-true, cond-false, lt-ltb, le-ltb}
@@ -15,9 +15,10 @@ use Rattle.skip_vector.specs.Skips.{probes_from}
 use Rattle.skip_vector.proofs.ProbeLaws.{probes_few}
 use Rattle.pair_stream.proofs.DpsubSteps.{one_on}
 use Rattle.enum_dpsize.specs.Dpsize.{start_at}
-use Rattle.enum_dpsize.specs.DpsizeLeft.{NextSizes, IsDpsizeState}
+use Rattle.enum_dpsize.specs.declared.cursor.Cursor.{Cursor}
+use Rattle.enum_dpsize.specs.DpsizeLeft.{NextSizes, is_same}
 use Rattle.enum_dpsize.specs.Dpsva.{row_probes, rows_probes, sized_probes, dpsva_probes}
-use Rattle.enum_dpsize.specs.DpsvaLeft.{rows_probes_from, probes_left}
+use Rattle.enum_dpsize.specs.DpsvaLeft.{rows_probes_from, probes_left, probes_at}
 use Rattle.enum_dpsize.proofs.PartLists.{part_few}
 
 -- ---- rows
@@ -149,36 +150,49 @@ unfolding dpsva_probes
 probes_start_one g i j e l =
     probes_end g 2 1 i j l (omega arith) (omega arith) ∙ sym (sum_length (of_size g) 2 (g.n - 1) 0 (omega arith))
 
--- a step to the next sizes
-pub probes_next : (g : JoinGraph) (parts : List (List ℕ)) (s k i j n s' k' j' : ℕ) → IsDpsizeState g parts s k → n ≡ g.n → length (part g k) ≤ i → NextSizes s k n (Some (s', k')) → j' ≡ start_at (nat_eq k' (s' - k')) 0 → probes_left g s k i j ≡ probes_left g s' k' 0 j'
-probes_next g parts s k i j n s' k' j' f en o next ej =
-    elim next [
-      | inl h ↦
-          left_small g s k i j o h.0
-          ∙ ap (λ (x : ℕ). probes_left g x (suc k) 0 (start_at (nat_eq (suc k) (x - suc k)) 0)) (sym h.1)
-          ∙ ap (λ (x : ℕ). probes_left g s' x 0 (start_at (nat_eq x (s' - x)) 0)) (one_on _ _ h.2)
-          ∙ ap (probes_left g s' k' 0) (sym ej)
-      | inr h ↦
-          left_size g s k i j o h.0 (omega (arith, h.1, en)) (omega (arith, f.small, f.half))
-          ∙ ap (λ (x : ℕ). probes_left g x 1 0 (start_at (nat_eq 1 (x - 1)) 0)) (one_on _ _ h.2)
-          ∙ ap (λ (x : ℕ). probes_left g s' x 0 (start_at (nat_eq x (s' - x)) 0)) (sym h.3)
-          ∙ ap (probes_left g s' k' 0) (sym ej)
-    ]
+-- the sizes have no row left
+module _ (g : JoinGraph) (c : Cursor) (o : length (part g c.small) ≤ c.row) where
+  pub probes_end_here : c.size < c.small * 2 + 2 → g.n ≤ c.size → probes_at g c ≡ 0
+  probes_end_here l m = probes_end g c.size c.small c.row c.next o l m
 
--- what a row gives stays in its sizes
-pub probes_here : (g : JoinGraph) (s k : ℕ) (xs ys : List ℕ) (i j i' j' a b : ℕ) → xs ≡ part g k → ys ≡ part g (s - k) → b + rows_probes_from ys (nat_eq k (s - k)) xs i' j' ≡ a + rows_probes_from ys (nat_eq k (s - k)) xs i j → b + probes_left g s k i' j' ≡ a + probes_left g s k i j
-unfolding probes_left
-probes_here g s k xs ys i j i' j' a b ex ey e =
-    omega (
-      arith,
-      subst (λ (zs : List ℕ). b + rows_probes_from (part g (s - k)) (nat_eq k (s - k)) zs i' j' ≡ a + rows_probes_from (part g (s - k)) (nat_eq k (s - k)) zs i j) ex
-          (subst (λ (zs : List ℕ). b + rows_probes_from zs (nat_eq k (s - k)) xs i' j' ≡ a + rows_probes_from zs (nat_eq k (s - k)) xs i j) ey e),
-    )
+  pub probes_next : (n s k j : ℕ) → n ≡ g.n → 1 ≤ c.small → c.small * 2 ≤ c.size → NextSizes c.size c.small n (Some (s, k)) → j ≡ start_at (nat_eq k (s - k)) 0 → probes_left g s k 0 j ≡ probes_at g c
+  probes_next n s k j en small half next ej =
+      sym (elim next [
+        | inl h ↦
+            left_small g c.size c.small c.row c.next o h.0
+            ∙ ap (λ (x : ℕ). probes_left g x (suc c.small) 0 (start_at (nat_eq (suc c.small) (x - suc c.small)) 0)) (sym h.1)
+            ∙ ap (λ (x : ℕ). probes_left g s x 0 (start_at (nat_eq x (s - x)) 0)) (one_on _ _ h.2)
+            ∙ ap (probes_left g s k 0) (sym ej)
+        | inr h ↦
+            left_size g c.size c.small c.row c.next o h.0 (omega (arith, h.1, en)) (omega (arith, small, half))
+            ∙ ap (λ (x : ℕ). probes_left g x 1 0 (start_at (nat_eq 1 (x - 1)) 0)) (one_on _ _ h.2)
+            ∙ ap (λ (x : ℕ). probes_left g s x 0 (start_at (nat_eq x (s - x)) 0)) (sym h.3)
+            ∙ ap (probes_left g s k 0) (sym ej)
+      ])
 
-pub rows_within : (g : JoinGraph) (s k : ℕ) (xs ys : List ℕ) (i j : ℕ) → xs ≡ part g k → ys ≡ part g (s - k) → rows_probes_from ys (nat_eq k (s - k)) xs i j ≤ probes_left g s k i j
-unfolding probes_left
-rows_within g s k xs ys i j ex ey =
-    omega (arith, ap (λ (zs : List ℕ). rows_probes_from ys (nat_eq k (s - k)) zs i j) ex, ap (λ (zs : List ℕ). rows_probes_from zs (nat_eq k (s - k)) (part g k) i j) ey)
+-- the row at hand
+module _ (g : JoinGraph) (c : Cursor) (xs ys : List ℕ) (x : ℕ) (ex : xs ≡ part g c.small) (ey : ys ≡ part g (c.size - c.small)) (l : c.row < length xs) (e : x ≡ get_or xs c.row x) where
+  -- its probes, and those after it
+  abbrev after : ℕ
+  after = probes_left g c.size c.small (c.row + 1) (start_at (is_same c) (c.row + 1))
+
+  pub probes_from_place : (j : ℕ) → probes_left g c.size c.small c.row j ≡ probes_from ys j x + after
+  unfolding probes_left
+  probes_from_place j =
+      omega (
+        arith,
+        subst (λ (zs : List ℕ). rows_probes_from (part g (c.size - c.small)) (is_same c) zs c.row j ≡ probes_from ys j x + rows_probes_from (part g (c.size - c.small)) (is_same c) zs (c.row + 1) (start_at (is_same c) (c.row + 1))) ex
+            (subst (λ (zs : List ℕ). rows_probes_from zs (is_same c) xs c.row j ≡ probes_from ys j x + rows_probes_from zs (is_same c) xs (c.row + 1) (start_at (is_same c) (c.row + 1))) ey
+            (rows_on ys (is_same c) xs c.row j (start_at (is_same c) (c.row + 1)) x l e refl)),
+      )
+
+-- d is c in the next row
+pub row_probes_left : (g : JoinGraph) (c d : Cursor) (j : ℕ) → d.size ≡ c.size → d.small ≡ c.small → d.row ≡ c.row + 1 → d.next ≡ j → probes_left g c.size c.small (c.row + 1) j ≡ probes_at g d
+row_probes_left g c d j size small row next =
+    ap (λ (x : ℕ). probes_left g x c.small (c.row + 1) j) (sym size)
+    ∙ ap (λ (x : ℕ). probes_left g d.size x (c.row + 1) j) (sym small)
+    ∙ ap (λ (x : ℕ). probes_left g d.size d.small x j) (sym row)
+    ∙ ap (probes_left g d.size d.small d.row) (sym next)
 
 -- ---- they are few
 

@@ -92,6 +92,13 @@ row_begins g xs ys same i h =
     drop_cons : (xs : List ℕ) (i : ℕ) → i < length xs → drop i xs ≡ get_or xs i 0 ∷ drop (i + 1) xs
     drop_cons xs i l = drop-cons xs i 0 l ∙ ap (λ (k : ℕ). get_or xs i 0 ∷ drop k xs) (sym (add-one i))
 
+-- the row of x gives a pair
+pub rows_taken : (g : JoinGraph) (xs ys : List ℕ) (same : Bool) (i j j' x : ℕ) (p : Pair) → i < length xs → x ≡ get_or xs i x → pairs_with g (drop j ys) x ≡ p ∷ pairs_with g (drop j' ys) x → rows_from g ys same (drop i xs) j ≡ p ∷ rows_from g ys same (drop i xs) j'
+rows_taken g xs ys same i j j' x p l ex e =
+    ap (λ zs. rows_from g ys same zs j) (split xs i x l ex)
+    ∙ ap (λ zs. zs ++ row_pairs g ys same (drop (i + 1) xs)) e
+    ∙ ap (λ zs. p ∷ zs) (sym (ap (λ zs. rows_from g ys same zs j') (split xs i x l ex)))
+
 -- the row of x is over
 pub rows_next : (g : JoinGraph) (xs ys : List ℕ) (same : Bool) (i j n x : ℕ) → i < length xs → x ≡ get_or xs i x → pairs_with g (drop j ys) x ≡ [] → (same ≡ true → xs ≡ ys) → n ≡ start_at same (i + 1) → rows_from g ys same (drop i xs) j ≡ rows_from g ys same (drop (i + 1) xs) n
 rows_next g xs ys same i j n x l ex e h en =

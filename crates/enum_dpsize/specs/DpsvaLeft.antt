@@ -4,6 +4,7 @@ use Rattle.std.specs.List.{range_with_len}
 use Rattle.join_graph.specs.Graphs.{JoinGraph}
 use Rattle.pair_stream.specs.Parts.{part}
 use Rattle.skip_vector.specs.Skips.{probes_from}
+use Rattle.enum_dpsize.specs.declared.cursor.Cursor.{Cursor}
 use Rattle.enum_dpsize.specs.DpsizeLeft.{IsDpsizeState}
 use Rattle.enum_dpsize.specs.Dpsva.{rows_probes, sized_probes}
 
@@ -19,7 +20,11 @@ probes_left g s k i j =
     + (sum_by (λ k. sized_probes g k (s - k)) (range_with_len (suc k) (s / 2 - k))
     + sum_by (λ s. sum_by (λ k. sized_probes g k (s - k)) (range_with_len 1 (s / 2))) (range_with_len (suc s) (g.n - s)))
 
+-- the same from a cursor on
+abbrev pub probes_at : JoinGraph → Cursor → ℕ
+probes_at g c = probes_left g c.size c.small c.row c.next
+
 -- what every state keeps
-pub record IsDpsvaState (g : JoinGraph) (parts : List (List ℕ)) (s k i j probes : ℕ) : Type 0 where
-  pub state : IsDpsizeState g parts s k
-  pub few : probes + probes_left g s k i j < 2 ^ 64
+pub record IsDpsvaState (g : JoinGraph) (parts : List (List ℕ)) (c : Cursor) (probes : ℕ) : Type 0 where
+  pub state : IsDpsizeState g parts c
+  pub few : probes + probes_at g c < 2 ^ 64

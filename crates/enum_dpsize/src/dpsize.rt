@@ -1,14 +1,13 @@
-ghost use Rattle.std.specs.Prelude.{refl, ◌≡◌, List, drop, All, true};
+ghost use Rattle.std.specs.Prelude.{refl, ◌≡◌, List, drop, All};
 ghost use Rattle.dpe_base.specs.declared.pair.Pair.{Pair};
 ghost use Rattle.join_graph.specs.Graphs.{Connected};
 ghost use Rattle.pair_stream.specs.Orders.{Ordered, Complete};
 ghost use Rattle.pair_stream.specs.Parts.{parts_of};
 ghost use Rattle.pair_stream.specs.Streams.{Takes};
 ghost use Rattle.enum_dpsize.specs.Dpsize.{pairs_with, seq_dpsize};
-ghost use Rattle.enum_dpsize.specs.DpsizeLeft.{rows_from};
 
+use crate::cursor::Cursor;
 use crate::pairs::{is_joinable, pair_by_least};
-use crate::sizes::{next_sizes, start_at};
 use dpe_base::{Pair, RelSet, Steps};
 use join_graph::Graph;
 use pair_stream::{PairStream, Parts};
@@ -24,22 +23,19 @@ use std::sync::ledger::Ledger;
 pub struct DpSize<'a> {
     graph: Graph,
     parts: &'a Parts,
-    size: u32,
-    small: u32,
-    row: usize,
-    next: usize,
+    cursor: Cursor,
 }
 
 impl<'a> Model for DpSize<'a> {
     ghost use Rattle.std.specs.Prelude.{List};
     ghost use Rattle.dpe_base.specs.declared.pair.Pair.{Pair};
-    ghost use Rattle.enum_dpsize.specs.DpsizeLeft.{dpsize_left, IsDpsizeState};
+    ghost use Rattle.enum_dpsize.specs.DpsizeLeft.{left_at, IsDpsizeState};
 
     ghost Value = { List Pair };
 
-    ghost view = { λ s. dpsize_left s.graph s.size s.small s.row s.next };
+    ghost view = { λ s. left_at s.graph s.cursor };
 
-    ghost invariant = { λ s. IsDpsizeState s.graph s.parts.now s.size s.small };
+    ghost invariant = { λ s. IsDpsizeState s.graph s.parts.now s.cursor };
 }
 
 // The next pair of `x` with one of the sets from `next` on.
@@ -60,30 +56,6 @@ fn next_in_row(graph: &Graph, x: RelSet, ys: &[RelSet], next: &mut usize) -> Opt
     None
 }
 
-// The next pair of the rows.
-fn next_in_rows(
-    graph: &Graph,
-    xs: &[RelSet],
-    ys: &[RelSet],
-    same: bool,
-    row: &mut usize,
-    next: &mut usize,
-) -> Option<Pair>
-    requires xs { All (Connected graph.now) xs.now }
-    requires ys { All (Connected graph.now) ys.now }
-    requires same { same ≡ true → xs.now ≡ ys.now }
-    ensures { Takes (rows_from graph.now ys.now same (drop row.old xs.now) next.old) (rows_from graph.now ys.now same (drop row.new xs.now) next.new) result }
-{
-    'rows: while *row < xs.len() {
-        if let Some(p) = next_in_row(graph, xs[*row], ys, next) {
-            return Some(p);
-        }
-        *row += 1;
-        *next = start_at(same, *row);
-    }
-    None
-}
-
 impl<'a> DpSize<'a> {
     /// The stream of all pairs of the graph whose parts these are. It takes no memory.
     pub fn over(graph: &Graph, parts: &'a Parts) -> DpSize<'a>
@@ -96,14 +68,11 @@ impl<'a> DpSize<'a> {
         ensures probes { (s : List Pair) → ⟦<DpSize<'a> as PairStream>⟧.probed s ≡ 0 }
         ensures total { ⟦<DpSize<'a> as PairStream>⟧.total result ≡ 0 }
     {
-        let n = graph.n();
+        graph.recall();
         DpSize {
             graph: *graph,
             parts,
-            size: 2,
-            small: 1,
-            row: if n == 1 { parts.part(1).len() } else { 0 },
-            next: 1,
+            cursor: Cursor::first(graph),
         }
     }
 }
@@ -120,28 +89,19 @@ impl<'a> PairStream for DpSize<'a> {
     ghost total = { λ _. 0 };
 
     fn next<L: Ledger>(&mut self, _steps: &mut Steps<L>) -> Option<Pair> {
-        'sizes: loop {
-            let xs = self.parts.part(self.small);
-            let ys = self.parts.part(self.size - self.small);
-            let same = self.small == self.size - self.small;
-            if let Some(p) = next_in_rows(
-                &self.graph,
-                xs,
-                ys,
-                same,
-                &mut self.row,
-                &mut self.next,
-            ) {
-                return Some(p);
-            }
-            match next_sizes(self.size, self.small, self.graph.n() as u32) {
-                None => return None,
-                Some((size, small)) => {
-                    self.size = size;
-                    self.small = small;
-                    self.row = 0;
-                    self.next = start_at(small == size - small, 0);
+        'rows: loop {
+            let xs = self.parts.part(self.cursor.small);
+            let ys = self.parts.part(self.cursor.size - self.cursor.small);
+            if self.cursor.row < xs.len() {
+                let x = xs[self.cursor.row];
+                if let Some(p) = next_in_row(&self.graph, x, ys, &mut self.cursor.next) {
+                    return Some(p);
                 }
+                self.cursor.next_row();
+                continue;
+            }
+            if !self.cursor.next_sizes(&self.graph) {
+                return None;
             }
         }
     }

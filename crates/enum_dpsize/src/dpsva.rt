@@ -1,16 +1,14 @@
-ghost use Rattle.std.specs.Prelude.{◌≡◌, ◌+◌, ◌^◌, ◌<◌, ◌≤◌, length, drop, All, true, IsNone};
+ghost use Rattle.std.specs.Prelude.{◌≡◌, ◌+◌, ◌^◌, ◌<◌, ◌≤◌, length, drop, All, IsNone};
 ghost use Rattle.join_graph.specs.Graphs.{Connected};
 ghost use Rattle.pair_stream.specs.Orders.{Ordered, Complete};
 ghost use Rattle.pair_stream.specs.Parts.{parts_of};
 ghost use Rattle.pair_stream.specs.Streams.{Takes};
 ghost use Rattle.skip_vector.specs.Skips.{probes_from};
 ghost use Rattle.enum_dpsize.specs.Dpsize.{pairs_with, seq_dpsize};
-ghost use Rattle.enum_dpsize.specs.DpsizeLeft.{rows_from};
 ghost use Rattle.enum_dpsize.specs.Dpsva.{dpsva_probes};
-ghost use Rattle.enum_dpsize.specs.DpsvaLeft.{rows_probes_from};
 
+use crate::cursor::Cursor;
 use crate::pairs::{is_joinable, pair_by_least};
-use crate::sizes::{next_sizes, start_at};
 use crate::skip_parts::SkipParts;
 use dpe_base::{Pair, RelSet, Steps};
 use join_graph::Graph;
@@ -27,24 +25,21 @@ use std::sync::ledger::Ledger;
 pub struct DpSva<'a> {
     graph: Graph,
     parts: &'a SkipParts,
-    size: u32,
-    small: u32,
-    row: usize,
-    next: usize,
+    cursor: Cursor,
     probes: u64,
 }
 
 impl<'a> Model for DpSva<'a> {
     ghost use Rattle.std.specs.Prelude.{◌+◌};
-    ghost use Rattle.enum_dpsize.specs.DpsizeLeft.{dpsize_left};
+    ghost use Rattle.enum_dpsize.specs.DpsizeLeft.{left_at};
     ghost use Rattle.enum_dpsize.specs.Dpsva.{CountedStream};
-    ghost use Rattle.enum_dpsize.specs.DpsvaLeft.{IsDpsvaState, probes_left};
+    ghost use Rattle.enum_dpsize.specs.DpsvaLeft.{IsDpsvaState, probes_at};
 
     ghost Value = { CountedStream };
 
-    ghost view = { λ s. record { pairs = dpsize_left s.graph s.size s.small s.row s.next; probed = s.probes; total = s.probes + probes_left s.graph s.size s.small s.row s.next } };
+    ghost view = { λ s. record { pairs = left_at s.graph s.cursor; probed = s.probes; total = s.probes + probes_at s.graph s.cursor } };
 
-    ghost invariant = { λ s. IsDpsvaState s.graph s.parts.now s.size s.small s.row s.next s.probes };
+    ghost invariant = { λ s. IsDpsvaState s.graph s.parts.now s.cursor s.probes };
 }
 
 // The next pair of `x` with one of the entries from `next` on.
@@ -87,37 +82,6 @@ fn next_in_row<L: Ledger>(
     None
 }
 
-// The next pair of the rows.
-fn next_in_rows<L: Ledger>(
-    graph: &Graph,
-    xs: &[RelSet],
-    ys: &SkipPart,
-    same: bool,
-    row: &mut usize,
-    next: &mut usize,
-    probes: &mut u64,
-    steps: &mut Steps<L>,
-) -> Option<Pair>
-    requires xs { All (Connected graph.now) xs.now }
-    requires ys { All (Connected graph.now) ys.now }
-    requires same { same ≡ true → xs.now ≡ ys.now }
-    requires room { probes.old + rows_probes_from ys.now same xs.now row.old next.old < 2 ^ 64 }
-    ensures pair { Takes (rows_from graph.now ys.now same (drop row.old xs.now) next.old) (rows_from graph.now ys.now same (drop row.new xs.now) next.new) result }
-    ensures probes { probes.new + rows_probes_from ys.now same xs.now row.new next.new ≡ probes.old + rows_probes_from ys.now same xs.now row.old next.old }
-    ensures end { IsNone result → length xs.now ≤ row.new }
-    ensures steps { steps.new + probes.old ≡ steps.old + probes.new }
-    ensures forward { steps.old ≤ steps.new }
-{
-    'rows: while *row < xs.len() {
-        if let Some(p) = next_in_row(graph, xs[*row], ys, next, probes, steps) {
-            return Some(p);
-        }
-        *row += 1;
-        *next = start_at(same, *row);
-    }
-    None
-}
-
 impl<'a> DpSva<'a> {
     /// The stream of all pairs of the graph whose parts these are. It takes no memory.
     pub fn over(graph: &Graph, parts: &'a SkipParts) -> DpSva<'a>
@@ -128,14 +92,11 @@ impl<'a> DpSva<'a> {
         ensures probes { ⟦<DpSva<'a> as PairStream>⟧.probed result ≡ 0 }
         ensures total { ⟦<DpSva<'a> as PairStream>⟧.total result ≡ dpsva_probes graph.now }
     {
-        let n = graph.n();
+        graph.recall();
         DpSva {
             graph: *graph,
             parts,
-            size: 2,
-            small: 1,
-            row: if n == 1 { parts.list(1).len() } else { 0 },
-            next: 1,
+            cursor: Cursor::first(graph),
             probes: 0,
         }
     }
@@ -153,30 +114,20 @@ impl<'a> PairStream for DpSva<'a> {
     ghost total = { λ s. s.total };
 
     fn next<L: Ledger>(&mut self, steps: &mut Steps<L>) -> Option<Pair> {
-        'sizes: loop {
-            let xs = self.parts.list(self.small);
-            let ys = self.parts.skips(self.size - self.small);
-            let same = self.small == self.size - self.small;
-            if let Some(p) = next_in_rows(
-                &self.graph,
-                xs,
-                ys,
-                same,
-                &mut self.row,
-                &mut self.next,
-                &mut self.probes,
-                steps,
-            ) {
-                return Some(p);
-            }
-            match next_sizes(self.size, self.small, self.graph.n() as u32) {
-                None => return None,
-                Some((size, small)) => {
-                    self.size = size;
-                    self.small = small;
-                    self.row = 0;
-                    self.next = start_at(small == size - small, 0);
+        'rows: loop {
+            let xs = self.parts.list(self.cursor.small);
+            let ys = self.parts.skips(self.cursor.size - self.cursor.small);
+            if self.cursor.row < xs.len() {
+                let x = xs[self.cursor.row];
+                let (next, probes) = (&mut self.cursor.next, &mut self.probes);
+                if let Some(p) = next_in_row(&self.graph, x, ys, next, probes, steps) {
+                    return Some(p);
                 }
+                self.cursor.next_row();
+                continue;
+            }
+            if !self.cursor.next_sizes(&self.graph) {
+                return None;
             }
         }
     }

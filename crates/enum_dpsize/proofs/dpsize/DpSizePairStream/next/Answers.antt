@@ -1,78 +1,64 @@
-use Rattle.std.proofs.Common.{◌≡◌, ◌∙◌, ◌-◌, arith}
+use Rattle.std.proofs.Common.{◌≡◌, ◌-◌, ◌∙◌, arith, ap, length}
 use Rattle.pair_stream.specs.Parts.{part}
-use Rattle.pair_stream.specs.Streams.{over_from_empty}
-use Rattle.enum_dpsize.specs.DpsizeLeft.{IsDpsizeState, dpsize_left}
-use Rattle.enum_dpsize.proofs.PartLists.{part_connected}
-use Rattle.enum_dpsize.proofs.DpsizeSteps.{first_known, second_known, first_list, second_list, one_list, taken_here, over_here, left_end, step_sizes}
+use Rattle.enum_dpsize.proofs.PartLists.{part_connected, set_connected}
+use Rattle.enum_dpsize.proofs.DpsizeSteps.{first_known, second_known, first_list, second_list, taken_here, passed_here, rank_by_sizes, row_fits, row_falls, row_left}
 use Rattle.enum_dpsize.proofs.dpsize.DpSizePairStream.next.Goals as goal
 
 pub part-xs-requires : goal.part-xs-requires
-part-xs-requires g c =
-    let s = c.sizes.self-inside in
-    first_known s.graph s.parts.now s.size s.small c.sizes.invariant.fits
+part-xs-requires g c = let s = c.rows.self-inside in first_known s.graph s.parts.now s.cursor c.rows.invariant.fits
 
 pub part-ys-requires : goal.part-ys-requires
-part-ys-requires g c =
-    let s = c.sizes.self-inside in
-    second_known s.graph s.parts.now s.size s.small c.sizes.invariant.fits
+part-ys-requires g c = let s = c.rows.self-inside in second_known s.graph s.parts.now s.cursor c.rows.invariant.fits
 
-pub next_in_rows-requires-clause-xs : goal.next_in_rows-requires-clause-xs
-next_in_rows-requires-clause-xs g c =
-    let f = c.sizes.invariant.fits in
-    let s = c.sizes.self-inside in
-    part_connected s.graph s.small c.part-xs.result.now f.graph (first_list s.graph s.parts.now s.size s.small c.part-xs.result.now f c.part-xs.ensures)
+pub next_in_row-requires-clause-x : goal.next_in_row-requires-clause-x
+next_in_row-requires-clause-x g c =
+    let s = c.rows.self-inside in
+    let f = c.rows.invariant.fits in
+    set_connected s.graph s.cursor.small c.part-xs.result.now s.cursor.row c.index-xs-self.result f.cursor.graph (first_list s.graph s.parts.now s.cursor f c.part-xs.result.now c.part-xs.ensures) c.if-self-xs.true c.index-xs-self.is
 
-pub next_in_rows-requires-clause-ys : goal.next_in_rows-requires-clause-ys
-next_in_rows-requires-clause-ys g c =
-    let f = c.sizes.invariant.fits in
-    let s = c.sizes.self-inside in
-    part_connected s.graph (s.size - s.small) c.part-ys.result.now f.graph (second_list s.graph s.parts.now s.size s.small c.part-ys.result.now f c.part-ys.ensures)
-
-pub next_in_rows-requires-clause-same : goal.next_in_rows-requires-clause-same
-next_in_rows-requires-clause-same g c =
-    let f = c.sizes.invariant.fits in
-    let s = c.sizes.self-inside in
-    one_list s.graph s.parts.now s.size s.small c.part-xs.result.now c.part-ys.result.now
-    (first_list s.graph s.parts.now s.size s.small c.part-xs.result.now f c.part-xs.ensures)
-    (second_list s.graph s.parts.now s.size s.small c.part-ys.result.now f c.part-ys.ensures)
+pub next_in_row-requires-clause-ys : goal.next_in_row-requires-clause-ys
+next_in_row-requires-clause-ys g c =
+    let s = c.rows.self-inside in
+    let f = c.rows.invariant.fits in
+    part_connected s.graph (s.cursor.size - s.cursor.small) c.part-ys.result.now f.cursor.graph (second_list s.graph s.parts.now s.cursor f c.part-ys.result.now c.part-ys.ensures)
 
 pub returns-in-Some-clause-pair : goal.returns-in-Some-clause-pair
 returns-in-Some-clause-pair g c =
-    let f = c.sizes.invariant.fits in
-    let s = c.sizes.self-inside in
-    c.sizes.invariant.left
-    ∙ taken_here s.graph s.size s.small c.part-xs.result.now c.part-ys.result.now s.row s.next c.next_in_rows.new.row c.next_in_rows.new.next c.in-Some.p
-    (first_list s.graph s.parts.now s.size s.small c.part-xs.result.now f c.part-xs.ensures)
-    (second_list s.graph s.parts.now s.size s.small c.part-ys.result.now f c.part-ys.ensures)
-    c.in-Some.ensures
+    let s = c.rows.self-inside in
+    let f = c.rows.invariant.fits in
+    let ex : c.part-xs.result.now ≡ part s.graph s.cursor.small = first_list s.graph s.parts.now s.cursor f c.part-xs.result.now c.part-xs.ensures in
+    let ey : c.part-ys.result.now ≡ part s.graph (s.cursor.size - s.cursor.small) = second_list s.graph s.parts.now s.cursor f c.part-ys.result.now c.part-ys.ensures in
+    c.rows.invariant.left
+    ∙ taken_here s.graph s.cursor c.part-xs.result.now c.part-ys.result.now c.index-xs-self.result c.next_in_row.new.next ex ey c.if-self-xs.true c.index-xs-self.is c.in-Some.p c.in-Some.ensures
 
-pub returns-in-None-clause-pair : goal.returns-in-None-clause-pair
-returns-in-None-clause-pair g c =
-    let f = c.sizes.invariant.fits in
-    let s = c.sizes.self-inside in
-    let ex : c.part-xs.result.now ≡ part s.graph s.small = first_list s.graph s.parts.now s.size s.small c.part-xs.result.now f c.part-xs.ensures in
-    let ey : c.part-ys.result.now ≡ part s.graph (s.size - s.small) = second_list s.graph s.parts.now s.size s.small c.part-ys.result.now f c.part-ys.ensures in (
-      c.sizes.invariant.left
-          ∙ left_end s.graph s.size s.small s.row s.next (over_here s.graph s.size s.small c.part-xs.result.now c.part-ys.result.now s.row s.next ex ey c.in_default.ensures.0) c.in-None.ensures.0 (omega (arith, c.in-None.ensures.1, c.n.ensures.value)),
-      left_end s.graph s.size s.small c.next_in_rows.new.row c.next_in_rows.new.next (over_here s.graph s.size s.small c.part-xs.result.now c.part-ys.result.now c.next_in_rows.new.row c.next_in_rows.new.next ex ey c.in_default.ensures.1) c.in-None.ensures.0 (omega (arith, c.in-None.ensures.1, c.n.ensures.value)),
-    )
+pub rows-smaller-then-self-xs : goal.rows-smaller-then-self-xs
+rows-smaller-then-self-xs g c =
+    let s = c.rows.self-inside in
+    let e = c.next_row.ensures in
+    let ex : c.part-xs.result.now ≡ part s.graph s.cursor.small = first_list s.graph s.parts.now s.cursor c.rows.invariant.fits c.part-xs.result.now c.part-xs.ensures in
+    row_falls s.graph s.cursor c.next_row.new.self e.sizes.0 e.sizes.1 e.row (omega (arith, ap length ex, c.if-self-xs.true))
 
-pub returns-in-None-clause-end : goal.returns-in-None-clause-end
-returns-in-None-clause-end g c =
-    let f = c.sizes.invariant.fits in
-    let s = c.sizes.self-inside in
-    let ex : c.part-xs.result.now ≡ part s.graph s.small = first_list s.graph s.parts.now s.size s.small c.part-xs.result.now f c.part-xs.ensures in
-    let ey : c.part-ys.result.now ≡ part s.graph (s.size - s.small) = second_list s.graph s.parts.now s.size s.small c.part-ys.result.now f c.part-ys.ensures in
-    λ _. over_from_empty (dpsize_left s.graph s.size s.small c.next_in_rows.new.row c.next_in_rows.new.next)
-    (left_end s.graph s.size s.small c.next_in_rows.new.row c.next_in_rows.new.next (over_here s.graph s.size s.small c.part-xs.result.now c.part-ys.result.now c.next_in_rows.new.row c.next_in_rows.new.next ex ey c.in_default.ensures.1) c.in-None.ensures.0 (omega (arith, c.in-None.ensures.1, c.n.ensures.value)))
+pub rows-preserved-then-self-xs : goal.rows-preserved-then-self-xs
+rows-preserved-then-self-xs g c =
+    let s = c.rows.self-inside in
+    let f = c.rows.invariant.fits in
+    let e = c.next_row.ensures in
+    let ex : c.part-xs.result.now ≡ part s.graph s.cursor.small = first_list s.graph s.parts.now s.cursor f c.part-xs.result.now c.part-xs.ensures in
+    let ey : c.part-ys.result.now ≡ part s.graph (s.cursor.size - s.cursor.small) = second_list s.graph s.parts.now s.cursor f c.part-ys.result.now c.part-ys.ensures in
+    record {
+      fits = record { cursor = row_fits s.graph s.cursor c.next_row.new.self e.sizes.0 e.sizes.1 e.row f.cursor (omega (arith, ap length ex, c.if-self-xs.true)); made = f.made };
+      left =
+          c.rows.invariant.left
+          ∙ passed_here s.graph s.cursor c.part-xs.result.now c.part-ys.result.now c.index-xs-self.result c.next_row.new.self.next ex ey c.if-self-xs.true c.index-xs-self.is c.in_default.ensures.0 e.next
+          ∙ row_left s.graph s.cursor c.next_row.new.self e.sizes.0 e.sizes.1 e.row;
+    }
 
-pub sizes-preserved : goal.sizes-preserved
-sizes-preserved g c =
-    let f = c.sizes.invariant.fits in
-    let s = c.sizes.self-inside in
-    let ex : c.part-xs.result.now ≡ part s.graph s.small = first_list s.graph s.parts.now s.size s.small c.part-xs.result.now f c.part-xs.ensures in
-    let ey : c.part-ys.result.now ≡ part s.graph (s.size - s.small) = second_list s.graph s.parts.now s.size s.small c.part-ys.result.now f c.part-ys.ensures in
-    let both : IsDpsizeState s.graph s.parts.now c.in-Some-next_sizes.size c.in-Some-next_sizes.small × (dpsize_left s.graph s.size s.small s.row s.next ≡ dpsize_left s.graph c.in-Some-next_sizes.size c.in-Some-next_sizes.small 0 c.start_at-self-inside.result) =
-    step_sizes s.graph s.parts.now s.size s.small s.row s.next c.n.result c.in-Some-next_sizes.size c.in-Some-next_sizes.small c.start_at-self-inside.result f c.n.ensures.value
-    (over_here s.graph s.size s.small c.part-xs.result.now c.part-ys.result.now s.row s.next ex ey c.in_default.ensures.0) c.in-Some-next_sizes.ensures c.start_at-self-inside.ensures in
-    record { fits = both.0; left = c.sizes.invariant.left ∙ both.1 }
+pub next_sizes-requires-clause-over : goal.next_sizes-requires-clause-over
+next_sizes-requires-clause-over g c =
+    let s = c.rows.self-inside in
+    omega (arith, ap length (first_list s.graph s.parts.now s.cursor c.rows.invariant.fits c.part-xs.result.now c.part-xs.ensures), c.if-self-xs.false)
+
+pub rows-smaller : goal.rows-smaller
+rows-smaller g c =
+    let s = c.rows.self-inside in
+    rank_by_sizes s.graph s.cursor c.next_sizes.new.self c.rows.invariant.fits.cursor.graph (c.next_sizes.ensures.on c.if-not-next_sizes.false)

@@ -1,13 +1,15 @@
-use Rattle.std.proofs.Common.{◌≡◌, ◌+◌, ◌-◌, ◌*◌}
-use Rattle.enum_dpsize.specs.DpsizeLeft.{IsDpsizeState, dpsize_left}
+use Rattle.std.proofs.Common.{◌≡◌}
+use Rattle.enum_dpsize.specs.DpsizeLeft.{IsDpsizeState, left_at}
+use Rattle.enum_dpsize.proofs.DpsizeSteps.{rank}
 use Rattle.enum_dpsize.proofs.dpsize.DpSizePairStream.next.Given as goal
 
-abbrev pub invariant-sizes : goal.invariant-sizes
-invariant-sizes g l =
+abbrev pub invariant-rows : goal.invariant-rows
+invariant-rows g l =
+    let s = l.self-inside in
     record {
-      fits : IsDpsizeState l.self-inside.graph l.self-inside.parts.now l.self-inside.size l.self-inside.small;
-      left : l.fn.self ≡ dpsize_left l.self-inside.graph l.self-inside.size l.self-inside.small l.self-inside.row l.self-inside.next;
+      fits : IsDpsizeState s.graph s.parts.now s.cursor;
+      left : l.fn.self ≡ left_at s.graph s.cursor;
     }
 
-abbrev pub decreases-sizes : goal.decreases-sizes
-decreases-sizes g l = (l.self-inside.graph.n + 2 - l.self-inside.size) * 64 + (l.self-inside.size - l.self-inside.small)
+abbrev pub decreases-rows : goal.decreases-rows
+decreases-rows g l = rank l.self-inside.graph l.self-inside.cursor

@@ -1,143 +1,108 @@
-use Rattle.std.proofs.Common.{◌≡◌, ◌≤◌, ◌∙◌, ◌+◌, ◌-◌, arith, ap, refl, length, nat_eq}
-use Rattle.std.proofs.lemmas.Bool.{and_from, eq-eqb}
+use Rattle.std.proofs.Common.{◌≡◌, ◌+◌, ◌-◌, ◌∙◌, arith, ap, refl, length}
 use Rattle.pair_stream.specs.Parts.{part}
-use Rattle.pair_stream.specs.Streams.{is_over, over_from_empty}
-use Rattle.enum_dpsize.specs.DpsizeLeft.{IsDpsizeState, dpsize_left}
-use Rattle.enum_dpsize.specs.DpsvaLeft.{probes_left}
-use Rattle.enum_dpsize.proofs.PartLists.{part_connected}
-use Rattle.enum_dpsize.proofs.DpsizeSteps.{first_known, second_known, first_list, second_list, one_list, taken_here, over_here, left_end, step_sizes}
-use Rattle.enum_dpsize.proofs.ProbeSteps.{probes_here, rows_within, probes_end, probes_next}
+use Rattle.enum_dpsize.specs.DpsizeLeft.{is_same}
+use Rattle.enum_dpsize.specs.DpsvaLeft.{probes_at}
+use Rattle.enum_dpsize.specs.Dpsize.{start_at}
+use Rattle.enum_dpsize.proofs.PartLists.{part_connected, set_connected}
+use Rattle.enum_dpsize.proofs.DpsizeSteps.{first_known, second_known, first_list, second_list, taken_here, passed_here, rank_by_sizes, row_fits, row_falls, row_left}
+use Rattle.enum_dpsize.proofs.ScanLaws.{none_over}
+use Rattle.enum_dpsize.proofs.ProbeSteps.{probes_from_place, row_probes_left}
 use Rattle.enum_dpsize.proofs.dpsva.DpSvaPairStream.next.Goals as goal
 
 pub list-xs-requires : goal.list-xs-requires
-list-xs-requires g c =
-    let s = c.sizes.self-inside in
-    first_known s.graph s.parts.now s.size s.small c.sizes.invariant.kept.state
+list-xs-requires g c = let s = c.rows.self-inside in first_known s.graph s.parts.now s.cursor c.rows.invariant.kept.state
 
 pub skips-ys-requires : goal.skips-ys-requires
-skips-ys-requires g c =
-    let s = c.sizes.self-inside in
-    second_known s.graph s.parts.now s.size s.small c.sizes.invariant.kept.state
+skips-ys-requires g c = let s = c.rows.self-inside in second_known s.graph s.parts.now s.cursor c.rows.invariant.kept.state
 
-pub next_in_rows-requires-clause-xs : goal.next_in_rows-requires-clause-xs
-next_in_rows-requires-clause-xs g c =
-    let f = c.sizes.invariant.kept.state in
-    let s = c.sizes.self-inside in
-    part_connected s.graph s.small c.list-xs.result.now f.graph (first_list s.graph s.parts.now s.size s.small c.list-xs.result.now f c.list-xs.ensures)
+pub next_in_row-requires-clause-x : goal.next_in_row-requires-clause-x
+next_in_row-requires-clause-x g c =
+    let s = c.rows.self-inside in
+    let f = c.rows.invariant.kept.state in
+    set_connected s.graph s.cursor.small c.list-xs.result.now s.cursor.row c.index-xs-self.result f.cursor.graph (first_list s.graph s.parts.now s.cursor f c.list-xs.result.now c.list-xs.ensures) c.if-self-xs.true c.index-xs-self.is
 
-pub next_in_rows-requires-clause-ys : goal.next_in_rows-requires-clause-ys
-next_in_rows-requires-clause-ys g c =
-    let f = c.sizes.invariant.kept.state in
-    let s = c.sizes.self-inside in
-    part_connected s.graph (s.size - s.small) c.skips-ys.result.now f.graph (second_list s.graph s.parts.now s.size s.small c.skips-ys.result.now f c.skips-ys.ensures)
+pub next_in_row-requires-clause-ys : goal.next_in_row-requires-clause-ys
+next_in_row-requires-clause-ys g c =
+    let s = c.rows.self-inside in
+    let f = c.rows.invariant.kept.state in
+    part_connected s.graph (s.cursor.size - s.cursor.small) c.skips-ys.result.now f.cursor.graph (second_list s.graph s.parts.now s.cursor f c.skips-ys.result.now c.skips-ys.ensures)
 
-pub next_in_rows-requires-clause-same : goal.next_in_rows-requires-clause-same
-next_in_rows-requires-clause-same g c =
-    let f = c.sizes.invariant.kept.state in
-    let s = c.sizes.self-inside in
-    one_list s.graph s.parts.now s.size s.small c.list-xs.result.now c.skips-ys.result.now
-    (first_list s.graph s.parts.now s.size s.small c.list-xs.result.now f c.list-xs.ensures)
-    (second_list s.graph s.parts.now s.size s.small c.skips-ys.result.now f c.skips-ys.ensures)
+pub next_in_row-requires-clause-room : goal.next_in_row-requires-clause-room
+next_in_row-requires-clause-room g c =
+    let s = c.rows.self-inside in
+    let f = c.rows.invariant.kept.state in
+    let ex : c.list-xs.result.now ≡ part s.graph s.cursor.small = first_list s.graph s.parts.now s.cursor f c.list-xs.result.now c.list-xs.ensures in
+    let ey : c.skips-ys.result.now ≡ part s.graph (s.cursor.size - s.cursor.small) = second_list s.graph s.parts.now s.cursor f c.skips-ys.result.now c.skips-ys.ensures in
+    omega (arith, c.rows.invariant.kept.few, probes_from_place s.graph s.cursor c.list-xs.result.now c.skips-ys.result.now c.index-xs-self.result ex ey c.if-self-xs.true c.index-xs-self.is s.cursor.next)
 
 pub returns-in-Some-clause-pair : goal.returns-in-Some-clause-pair
 returns-in-Some-clause-pair g c =
-    let f = c.sizes.invariant.kept.state in
-    let s = c.sizes.self-inside in
-    c.sizes.invariant.left
-    ∙ taken_here s.graph s.size s.small c.list-xs.result.now c.skips-ys.result.now s.row s.next c.next_in_rows.new.row c.next_in_rows.new.next c.in-Some.p
-    (first_list s.graph s.parts.now s.size s.small c.list-xs.result.now f c.list-xs.ensures)
-    (second_list s.graph s.parts.now s.size s.small c.skips-ys.result.now f c.skips-ys.ensures)
-    c.in-Some.ensures.pair
-
-pub returns-in-None-clause-pair : goal.returns-in-None-clause-pair
-returns-in-None-clause-pair g c =
-    let f = c.sizes.invariant.kept.state in
-    let s = c.sizes.self-inside in
-    let ex : c.list-xs.result.now ≡ part s.graph s.small = first_list s.graph s.parts.now s.size s.small c.list-xs.result.now f c.list-xs.ensures in
-    let ey : c.skips-ys.result.now ≡ part s.graph (s.size - s.small) = second_list s.graph s.parts.now s.size s.small c.skips-ys.result.now f c.skips-ys.ensures in (
-      c.sizes.invariant.left
-          ∙ left_end s.graph s.size s.small s.row s.next (over_here s.graph s.size s.small c.list-xs.result.now c.skips-ys.result.now s.row s.next ex ey c.in_default.ensures.pair.0) c.in-None.ensures.0 (omega (arith, c.in-None.ensures.1, c.n.ensures.value)),
-      left_end s.graph s.size s.small c.next_in_rows.new.row c.next_in_rows.new.next (over_here s.graph s.size s.small c.list-xs.result.now c.skips-ys.result.now c.next_in_rows.new.row c.next_in_rows.new.next ex ey c.in_default.ensures.pair.1) c.in-None.ensures.0 (omega (arith, c.in-None.ensures.1, c.n.ensures.value)),
-    )
-
-pub next_in_rows-requires-clause-room : goal.next_in_rows-requires-clause-room
-next_in_rows-requires-clause-room g c =
-    let f = c.sizes.invariant.kept.state in
-    let s = c.sizes.self-inside in
-    let ex : c.list-xs.result.now ≡ part s.graph s.small = first_list s.graph s.parts.now s.size s.small c.list-xs.result.now f c.list-xs.ensures in
-    let ey : c.skips-ys.result.now ≡ part s.graph (s.size - s.small) = second_list s.graph s.parts.now s.size s.small c.skips-ys.result.now f c.skips-ys.ensures in
-    omega (arith, c.sizes.invariant.kept.few, rows_within s.graph s.size s.small c.list-xs.result.now c.skips-ys.result.now s.row s.next ex ey)
-
-pub invariant_of-self : goal.invariant_of-self
-invariant_of-self g c =
-    let f = c.sizes.invariant.kept.state in
-    let s = c.sizes.self-inside in
-    let ex : c.list-xs.result.now ≡ part s.graph s.small = first_list s.graph s.parts.now s.size s.small c.list-xs.result.now f c.list-xs.ensures in
-    let ey : c.skips-ys.result.now ≡ part s.graph (s.size - s.small) = second_list s.graph s.parts.now s.size s.small c.skips-ys.result.now f c.skips-ys.ensures in
-    let counted : c.next_in_rows.new.probes + probes_left s.graph s.size s.small c.next_in_rows.new.row c.next_in_rows.new.next ≡ s.probes + probes_left s.graph s.size s.small s.row s.next =
-    probes_here s.graph s.size s.small c.list-xs.result.now c.skips-ys.result.now s.row s.next c.next_in_rows.new.row c.next_in_rows.new.next s.probes c.next_in_rows.new.probes ex ey c.in-Some.ensures.probes in
-    record { state = f; few = omega (arith, c.sizes.invariant.kept.few, counted) }
+    let s = c.rows.self-inside in
+    let f = c.rows.invariant.kept.state in
+    let ex : c.list-xs.result.now ≡ part s.graph s.cursor.small = first_list s.graph s.parts.now s.cursor f c.list-xs.result.now c.list-xs.ensures in
+    let ey : c.skips-ys.result.now ≡ part s.graph (s.cursor.size - s.cursor.small) = second_list s.graph s.parts.now s.cursor f c.skips-ys.result.now c.skips-ys.ensures in
+    c.rows.invariant.left
+    ∙ taken_here s.graph s.cursor c.list-xs.result.now c.skips-ys.result.now c.index-xs-self.result c.next_in_row.new.next ex ey c.if-self-xs.true c.index-xs-self.is c.in-Some.p c.in-Some.ensures.pair
 
 pub returns-in-Some-clause-whole : goal.returns-in-Some-clause-whole
 returns-in-Some-clause-whole g c =
-    let f = c.sizes.invariant.kept.state in
-    let s = c.sizes.self-inside in
-    let ex : c.list-xs.result.now ≡ part s.graph s.small = first_list s.graph s.parts.now s.size s.small c.list-xs.result.now f c.list-xs.ensures in
-    let ey : c.skips-ys.result.now ≡ part s.graph (s.size - s.small) = second_list s.graph s.parts.now s.size s.small c.skips-ys.result.now f c.skips-ys.ensures in
-    let counted : c.next_in_rows.new.probes + probes_left s.graph s.size s.small c.next_in_rows.new.row c.next_in_rows.new.next ≡ s.probes + probes_left s.graph s.size s.small s.row s.next =
-    probes_here s.graph s.size s.small c.list-xs.result.now c.skips-ys.result.now s.row s.next c.next_in_rows.new.row c.next_in_rows.new.next s.probes c.next_in_rows.new.probes ex ey c.in-Some.ensures.probes in
-    omega (arith, c.sizes.invariant.total, counted)
+    let s = c.rows.self-inside in
+    let f = c.rows.invariant.kept.state in
+    let ex : c.list-xs.result.now ≡ part s.graph s.cursor.small = first_list s.graph s.parts.now s.cursor f c.list-xs.result.now c.list-xs.ensures in
+    let ey : c.skips-ys.result.now ≡ part s.graph (s.cursor.size - s.cursor.small) = second_list s.graph s.parts.now s.cursor f c.skips-ys.result.now c.skips-ys.ensures in
+    let at = probes_from_place s.graph s.cursor c.list-xs.result.now c.skips-ys.result.now c.index-xs-self.result ex ey c.if-self-xs.true c.index-xs-self.is in
+    omega (arith, c.rows.invariant.total, c.in-Some.ensures.probes, at s.cursor.next, at c.next_in_row.new.next)
 
-pub invariant_of-self-in-None : goal.invariant_of-self-in-None
-invariant_of-self-in-None g c =
-    let f = c.sizes.invariant.kept.state in
-    let s = c.sizes.self-inside in
-    let ex : c.list-xs.result.now ≡ part s.graph s.small = first_list s.graph s.parts.now s.size s.small c.list-xs.result.now f c.list-xs.ensures in
-    let ey : c.skips-ys.result.now ≡ part s.graph (s.size - s.small) = second_list s.graph s.parts.now s.size s.small c.skips-ys.result.now f c.skips-ys.ensures in
-    let counted : c.next_in_rows.new.probes + probes_left s.graph s.size s.small c.next_in_rows.new.row c.next_in_rows.new.next ≡ s.probes + probes_left s.graph s.size s.small s.row s.next =
-    probes_here s.graph s.size s.small c.list-xs.result.now c.skips-ys.result.now s.row s.next c.next_in_rows.new.row c.next_in_rows.new.next s.probes c.next_in_rows.new.probes ex ey c.in_default.ensures.probes in
-    record { state = f; few = omega (arith, c.sizes.invariant.kept.few, counted) }
-
-pub returns-in-None-clause-whole : goal.returns-in-None-clause-whole
-returns-in-None-clause-whole g c =
-    let f = c.sizes.invariant.kept.state in
-    let s = c.sizes.self-inside in
-    let ex : c.list-xs.result.now ≡ part s.graph s.small = first_list s.graph s.parts.now s.size s.small c.list-xs.result.now f c.list-xs.ensures in
-    let ey : c.skips-ys.result.now ≡ part s.graph (s.size - s.small) = second_list s.graph s.parts.now s.size s.small c.skips-ys.result.now f c.skips-ys.ensures in
-    let counted : c.next_in_rows.new.probes + probes_left s.graph s.size s.small c.next_in_rows.new.row c.next_in_rows.new.next ≡ s.probes + probes_left s.graph s.size s.small s.row s.next =
-    probes_here s.graph s.size s.small c.list-xs.result.now c.skips-ys.result.now s.row s.next c.next_in_rows.new.row c.next_in_rows.new.next s.probes c.next_in_rows.new.probes ex ey c.in_default.ensures.probes in
-    omega (arith, c.sizes.invariant.total, counted)
-
-pub returns-in-None-clause-end : goal.returns-in-None-clause-end
-returns-in-None-clause-end g c =
-    let f = c.sizes.invariant.kept.state in
-    let s = c.sizes.self-inside in
-    let ex : c.list-xs.result.now ≡ part s.graph s.small = first_list s.graph s.parts.now s.size s.small c.list-xs.result.now f c.list-xs.ensures in
-    let ey : c.skips-ys.result.now ≡ part s.graph (s.size - s.small) = second_list s.graph s.parts.now s.size s.small c.skips-ys.result.now f c.skips-ys.ensures in
-    λ _. and_from (is_over (dpsize_left s.graph s.size s.small c.next_in_rows.new.row c.next_in_rows.new.next)) (nat_eq c.next_in_rows.new.probes (c.next_in_rows.new.probes + probes_left s.graph s.size s.small c.next_in_rows.new.row c.next_in_rows.new.next))
-    (over_from_empty (dpsize_left s.graph s.size s.small c.next_in_rows.new.row c.next_in_rows.new.next)
-    (left_end s.graph s.size s.small c.next_in_rows.new.row c.next_in_rows.new.next (over_here s.graph s.size s.small c.list-xs.result.now c.skips-ys.result.now c.next_in_rows.new.row c.next_in_rows.new.next ex ey c.in_default.ensures.pair.1) c.in-None.ensures.0 (omega (arith, c.in-None.ensures.1, c.n.ensures.value))))
-    (eq-eqb c.next_in_rows.new.probes (c.next_in_rows.new.probes + probes_left s.graph s.size s.small c.next_in_rows.new.row c.next_in_rows.new.next)
-    (omega (arith, probes_end s.graph s.size s.small c.next_in_rows.new.row c.next_in_rows.new.next (omega (arith, ap length ex, c.in_default.ensures.end refl)) c.in-None.ensures.0 (omega (arith, c.in-None.ensures.1, c.n.ensures.value)))))
-
-pub sizes-preserved : goal.sizes-preserved
-sizes-preserved g c =
-    let f = c.sizes.invariant.kept.state in
-    let s = c.sizes.self-inside in
-    let ex : c.list-xs.result.now ≡ part s.graph s.small = first_list s.graph s.parts.now s.size s.small c.list-xs.result.now f c.list-xs.ensures in
-    let ey : c.skips-ys.result.now ≡ part s.graph (s.size - s.small) = second_list s.graph s.parts.now s.size s.small c.skips-ys.result.now f c.skips-ys.ensures in
-    let counted : c.next_in_rows.new.probes + probes_left s.graph s.size s.small c.next_in_rows.new.row c.next_in_rows.new.next ≡ s.probes + probes_left s.graph s.size s.small s.row s.next =
-    probes_here s.graph s.size s.small c.list-xs.result.now c.skips-ys.result.now s.row s.next c.next_in_rows.new.row c.next_in_rows.new.next s.probes c.next_in_rows.new.probes ex ey c.in_default.ensures.probes in
-    let both : IsDpsizeState s.graph s.parts.now c.in-Some-next_sizes.size c.in-Some-next_sizes.small × (dpsize_left s.graph s.size s.small s.row s.next ≡ dpsize_left s.graph c.in-Some-next_sizes.size c.in-Some-next_sizes.small 0 c.start_at-self-inside.result) =
-    step_sizes s.graph s.parts.now s.size s.small s.row s.next c.n.result c.in-Some-next_sizes.size c.in-Some-next_sizes.small c.start_at-self-inside.result f c.n.ensures.value
-    (over_here s.graph s.size s.small c.list-xs.result.now c.skips-ys.result.now s.row s.next ex ey c.in_default.ensures.pair.0) c.in-Some-next_sizes.ensures c.start_at-self-inside.ensures in
-    let over : length (part s.graph s.small) ≤ c.next_in_rows.new.row = omega (arith, ap length ex, c.in_default.ensures.end refl) in
-    let next : probes_left s.graph s.size s.small c.next_in_rows.new.row c.next_in_rows.new.next ≡ probes_left s.graph c.in-Some-next_sizes.size c.in-Some-next_sizes.small 0 c.start_at-self-inside.result =
-    probes_next s.graph s.parts.now s.size s.small c.next_in_rows.new.row c.next_in_rows.new.next c.n.result c.in-Some-next_sizes.size c.in-Some-next_sizes.small c.start_at-self-inside.result f c.n.ensures.value over c.in-Some-next_sizes.ensures c.start_at-self-inside.ensures in
+pub invariant_of-self : goal.invariant_of-self
+invariant_of-self g c =
     record {
-      kept = record { state = both.0; few = omega (arith, c.sizes.invariant.kept.few, counted, next) };
-      left = c.sizes.invariant.left ∙ both.1;
-      total = omega (arith, c.sizes.invariant.total, counted, next);
-      steps = omega (arith, c.sizes.invariant.steps, c.in_default.ensures.steps);
-      forward = omega (arith, c.sizes.invariant.forward, c.in_default.ensures.forward);
+      state = record { cursor = record { graph = c.rows.invariant.kept.state.cursor.graph; small = c.rows.invariant.kept.state.cursor.small; half = c.rows.invariant.kept.state.cursor.half; known = c.rows.invariant.kept.state.cursor.known; fits = c.rows.invariant.kept.state.cursor.fits; row_known = c.rows.invariant.kept.state.cursor.row_known }; made = c.rows.invariant.kept.state.made };
+      few = omega (arith, c.rows.invariant.kept.few, c.rows.invariant.total, returns-in-Some-clause-whole g c);
     }
+
+pub rows-smaller-then-self-xs : goal.rows-smaller-then-self-xs
+rows-smaller-then-self-xs g c =
+    let s = c.rows.self-inside in
+    let e = c.next_row.ensures in
+    let ex : c.list-xs.result.now ≡ part s.graph s.cursor.small = first_list s.graph s.parts.now s.cursor c.rows.invariant.kept.state c.list-xs.result.now c.list-xs.ensures in
+    row_falls s.graph s.cursor c.next_row.new.self e.sizes.0 e.sizes.1 e.row (omega (arith, ap length ex, c.if-self-xs.true))
+
+pub rows-preserved-then-self-xs : goal.rows-preserved-then-self-xs
+rows-preserved-then-self-xs g c =
+    let s = c.rows.self-inside in
+    let f = c.rows.invariant.kept.state in
+    let e = c.next_row.ensures in
+    let o = c.in_default.ensures in
+    let ex : c.list-xs.result.now ≡ part s.graph s.cursor.small = first_list s.graph s.parts.now s.cursor f c.list-xs.result.now c.list-xs.ensures in
+    let ey : c.skips-ys.result.now ≡ part s.graph (s.cursor.size - s.cursor.small) = second_list s.graph s.parts.now s.cursor f c.skips-ys.result.now c.skips-ys.ensures in
+    let counted : c.next_in_row.new.probes + probes_at s.graph c.next_row.new.self ≡ s.probes + probes_at s.graph s.cursor =
+    omega (
+      arith,
+      o.probes,
+      none_over c.skips-ys.result.now c.index-xs-self.result c.next_in_row.new.next (o.end refl),
+      probes_from_place s.graph s.cursor c.list-xs.result.now c.skips-ys.result.now c.index-xs-self.result ex ey c.if-self-xs.true c.index-xs-self.is s.cursor.next,
+      row_probes_left s.graph s.cursor c.next_row.new.self (start_at (is_same s.cursor) (s.cursor.row + 1)) e.sizes.0 e.sizes.1 e.row e.next,
+    ) in
+    record {
+      kept = record {
+        state = record { cursor = row_fits s.graph s.cursor c.next_row.new.self e.sizes.0 e.sizes.1 e.row f.cursor (omega (arith, ap length ex, c.if-self-xs.true)); made = f.made };
+        few = omega (arith, c.rows.invariant.kept.few, counted);
+      };
+      left =
+          c.rows.invariant.left
+          ∙ passed_here s.graph s.cursor c.list-xs.result.now c.skips-ys.result.now c.index-xs-self.result c.next_row.new.self.next ex ey c.if-self-xs.true c.index-xs-self.is o.pair.0 e.next
+          ∙ row_left s.graph s.cursor c.next_row.new.self e.sizes.0 e.sizes.1 e.row;
+      total = omega (arith, c.rows.invariant.total, counted);
+      steps = omega (arith, c.rows.invariant.steps, o.steps);
+      forward = omega (arith, c.rows.invariant.forward, o.forward);
+    }
+
+pub next_sizes-requires-clause-over : goal.next_sizes-requires-clause-over
+next_sizes-requires-clause-over g c =
+    let s = c.rows.self-inside in
+    omega (arith, ap length (first_list s.graph s.parts.now s.cursor c.rows.invariant.kept.state c.list-xs.result.now c.list-xs.ensures), c.if-self-xs.false)
+
+pub rows-smaller : goal.rows-smaller
+rows-smaller g c =
+    let s = c.rows.self-inside in
+    rank_by_sizes s.graph s.cursor c.next_sizes.new.self c.rows.invariant.kept.state.cursor.graph (c.next_sizes.ensures.on c.if-not-next_sizes.false)
