@@ -1,7 +1,7 @@
 ghost use Rattle.card_scaled.specs.Cards.{IsCardTable};
 
-use crate::{CardTable, rows_once};
-use dpe_base::{Pred, Query, ROW_CAP, Rel, RelSet};
+use crate::{CardTable, Scaled, rows_once};
+use dpe_base::{INPUT_CAP, Pred, Query, ROW_CAP, Rel, RelSet};
 use std::alloc::Global;
 use std::test::Fail;
 
@@ -50,4 +50,41 @@ fn no_cap_inside_the_fold(rt: HostRuntime) -> Result<(), Fail> {
         assert_eq!(rt; by_both(&query, &table, s), Some((rows, rows)), "at {s}");
     }
     Ok(())
+}
+
+// The mantissa and the scale.
+fn digits(number: Scaled) -> (u32, i32) {
+    (number.mantissa, number.scale)
+}
+
+#[test]
+fn numbers_by_their_top_digits(rt: HostRuntime) {
+    let cap = INPUT_CAP.trailing_zeros() as i32;
+    assert_eq!(rt; digits(Scaled::one()), (2_147_483_648, -31));
+    assert_eq!(rt; digits(Scaled::norm(1)), (2_147_483_648, -31));
+    assert_eq!(rt; digits(Scaled::norm(100)), (3_355_443_200, -25));
+    assert_eq!(rt;
+        digits(Scaled::norm(INPUT_CAP as u128)),
+        (2_147_483_648, cap - 31)
+    );
+    // the 33 ones of the number lose the last
+    assert_eq!(rt; digits(Scaled::norm((1 << 33) - 1)), (u32::MAX, 1));
+    assert_eq!(rt; digits(Scaled::frac(1, 1)), (2_147_483_648, -31));
+    assert_eq!(rt; digits(Scaled::frac(1, 1000)), (2_199_023_255, -41));
+    assert_eq!(rt;
+        digits(Scaled::frac(1, INPUT_CAP)),
+        (2_147_483_648, -31 - cap)
+    );
+}
+
+#[test]
+fn products_by_their_top_digits(rt: HostRuntime) {
+    let one = Scaled::one();
+    assert_eq!(rt; digits(one.mul(one)), (2_147_483_648, -31));
+    let three = Scaled::norm(3);
+    assert_eq!(rt; digits(three.mul(three)), (2_415_919_104, -28));
+    // a thousand thousandths are less than 1 by what was cut off, and are rounded up
+    let whole = Scaled::norm(1000).mul(Scaled::frac(1, 1000));
+    assert_eq!(rt; digits(whole), (4_294_967_294, -32));
+    assert_eq!(rt; whole.rows(), 1);
 }

@@ -1,5 +1,5 @@
 use super::DpCcp;
-use dpe_base::{Pair, Pred, Query, Rel};
+use dpe_base::{N_MAX, Pair, Pred, Query, Rel};
 use join_graph::Graph;
 use pair_stream::{DpSub, collect_pairs};
 use std::alloc::{AllocError, Global};
@@ -55,15 +55,30 @@ fn counted(alloc: Global, n: u8, shape: Shape) -> Result<usize, Fail> {
     Ok(collect_pairs(alloc, &mut DpCcp::over(&g))?.len())
 }
 
-#[test]
-fn chain_of_four(rt: HostRuntime) -> Result<(), Fail> {
-    let g = graph(rt.alloc(), 4, Shape::Chain)?;
-    let pairs = collect_pairs(rt.alloc(), &mut DpCcp::over(&g))?;
-    let mut found = Vec::new(rt.alloc());
+// The sides of the pairs as numbers, in order.
+fn listed(alloc: Global, n: u8, shape: Shape) -> Result<Vec<(u32, u32)>, Fail> {
+    let g = graph(alloc, n, shape)?;
+    let pairs = collect_pairs(alloc, &mut DpCcp::over(&g))?;
+    let mut found = Vec::new(alloc);
     for p in pairs.iter() {
         found.push((p.a.bits(), p.b.bits()))?;
     }
-    let expected = [
+    Ok(found)
+}
+
+#[test]
+fn lists_of_small_graphs(rt: HostRuntime) -> Result<(), Fail> {
+    let chain_of_three = [(2, 4), (1, 2), (1, 6), (3, 4)];
+    assert_eq!(rt;
+        listed(rt.alloc(), 3, Shape::Chain)?.as_slice(),
+        chain_of_three.as_slice()
+    );
+    let clique_of_three = [(2, 4), (1, 4), (1, 2), (1, 6), (3, 4), (5, 2)];
+    assert_eq!(rt;
+        listed(rt.alloc(), 3, Shape::Clique)?.as_slice(),
+        clique_of_three.as_slice()
+    );
+    let chain_of_four = [
         (4, 8),
         (2, 4),
         (2, 12),
@@ -75,7 +90,20 @@ fn chain_of_four(rt: HostRuntime) -> Result<(), Fail> {
         (3, 12),
         (7, 8),
     ];
-    assert_eq!(rt; found.as_slice(), expected.as_slice());
+    assert_eq!(rt;
+        listed(rt.alloc(), 4, Shape::Chain)?.as_slice(),
+        chain_of_four.as_slice()
+    );
+    Ok(())
+}
+
+// (n^3 - n) / 6 pairs of a chain, (n^3 - 2 n^2 + n) / 2 of a cycle and (n - 1) 2^(n - 2) of a star.
+#[test]
+fn pairs_of_the_largest_graphs(rt: HostRuntime) -> Result<(), Fail> {
+    assert_eq!(rt; counted(rt.alloc(), 17, Shape::Chain)?, 816);
+    assert_eq!(rt; counted(rt.alloc(), N_MAX as u8, Shape::Chain)?, 1330);
+    assert_eq!(rt; counted(rt.alloc(), N_MAX as u8, Shape::Cycle)?, 3610);
+    assert_eq!(rt; counted(rt.alloc(), 18, Shape::Star)?, 1_114_112);
     Ok(())
 }
 

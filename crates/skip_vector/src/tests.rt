@@ -45,6 +45,35 @@ fn first_other_scan(part: &SkipPart, scans: &[Scan]) -> Option<(u32, usize)> {
     None
 }
 
+// How many entries all scans for a set look at, from a place on.
+fn probes_from(part: &SkipPart, from: usize, x: u32) -> u64 {
+    let mut place = from;
+    let mut probes = 0u64;
+    for _ in 0..part.len() {
+        if place >= part.len() {
+            return probes;
+        }
+        let free = scan(part, place, RelSet::of_bits(x));
+        probes = probes.saturating_add(free.probes);
+        match free.found {
+            None => return probes,
+            Some((found, _)) => place = found.saturating_add(1),
+        }
+    }
+    probes
+}
+
+// The first set, with where its scans begin, that takes another number of probes.
+fn first_other_count(part: &SkipPart, counts: &[(u32, usize, u64)]) -> Option<(u32, usize)> {
+    for counted in counts {
+        let (x, from, probes) = *counted;
+        if probes_from(part, from, x) != probes {
+            return Some((x, from));
+        }
+    }
+    None
+}
+
 // The first place and length at which the next place with another prefix is something else.
 fn first_other_place(
     part: &SkipPart,
@@ -89,6 +118,9 @@ fn the_single_relations(rt: HostRuntime) -> Result<(), Fail> {
     assert_eq!(rt; first_other_scan(&part, &scans), None);
     let places = [(0, 1, 1), (1, 1, 2), (3, 1, 4)];
     assert_eq!(rt; first_other_place(&part, &entries, &places), None);
+    // each relation with those after it
+    let counts = [(1, 1, 3), (2, 2, 2), (4, 3, 1), (8, 4, 0)];
+    assert_eq!(rt; first_other_count(&part, &counts), None);
     Ok(())
 }
 
@@ -143,6 +175,20 @@ fn the_sets_of_two(rt: HostRuntime) -> Result<(), Fail> {
         (5, 2, 6),
     ];
     assert_eq!(rt; first_other_place(&part, &entries, &places), None);
+    // each relation with all of them, and each of them with those after it
+    let counts = [
+        (1, 0, 4),
+        (2, 0, 5),
+        (4, 0, 6),
+        (8, 0, 6),
+        (3, 1, 3),
+        (5, 2, 4),
+        (9, 3, 3),
+        (6, 4, 2),
+        (10, 5, 1),
+        (12, 6, 0),
+    ];
+    assert_eq!(rt; first_other_count(&part, &counts), None);
     Ok(())
 }
 
@@ -181,5 +227,8 @@ fn the_sets_of_three(rt: HostRuntime) -> Result<(), Fail> {
         (1, 3, 2),
     ];
     assert_eq!(rt; first_other_place(&part, &entries, &places), None);
+    // each relation with all of them
+    let counts = [(1, 0, 2), (2, 0, 3), (4, 0, 4), (8, 0, 4)];
+    assert_eq!(rt; first_other_count(&part, &counts), None);
     Ok(())
 }
