@@ -105,8 +105,7 @@ fn union_bounded<M: CostModel>(
         ↔ ((p : Pair) → Pairs (graph_of query.now) p → union p.a p.b ≡ s
         → PairBounded M.KIND query.now bounds.now p) }
 {
-    // its clause says what every query keeps
-    let _n = query.n();
+    query.recall();
     let Some(whole) = side_of(query, known, bounds, s) else {
         return true;
     };

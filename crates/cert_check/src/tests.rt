@@ -2,18 +2,12 @@ ghost use Rattle.dpe_base.specs.Sets.{Within, full};
 
 use crate::check_cert;
 use card_scaled::rows_once;
-use cost_model::{CostModel, Cout, Ops};
+use cost_model::{Cout, HASH, JOIN, LOOP, MERGE, Ops};
 use dpe_base::{Pred, Query, Rel, RelSet};
 use join_graph::Graph;
 use join_tree::Tree;
 use std::alloc::{AllocError, Global};
 use std::test::Fail;
-
-const HASH: u8 = 0;
-
-const MERGE: u8 = 1;
-
-const LOOP: u8 = 2;
 
 // A relation of so many rows that no filter narrows.
 fn rel(rows: u64) -> Rel {
@@ -118,7 +112,12 @@ fn trees_that_are_no_plan(rt: HostRuntime) -> Result<(), Fail> {
     assert!(rt; !check_cert(&query, &Ops, &merge, &bounds));
     let looped = join(alloc, HASH, leaf(0), join(alloc, LOOP, leaf(1), leaf(2))?)?;
     assert!(rt; !check_cert(&query, &Ops, &looped, &bounds));
-    let unknown = join(alloc, HASH, leaf(0), join(alloc, 3, leaf(1), leaf(2))?)?;
+    let unknown = join(
+        alloc,
+        HASH,
+        leaf(0),
+        join(alloc, LOOP + 1, leaf(1), leaf(2))?,
+    )?;
     assert!(rt; !check_cert(&query, &Ops, &unknown, &bounds));
     // a relation twice, none of some, and none that there is
     let twice = join(alloc, HASH, join(alloc, HASH, leaf(0), leaf(1))?, leaf(1))?;
@@ -355,7 +354,7 @@ fn thirteen_relations(rt: HostRuntime) -> Result<(), Fail> {
     let mut bounds = costs_of_thirteen(alloc, &query)?;
     let mut tree = Tree::Leaf(0);
     for r in 1..13 {
-        tree = join(alloc, HASH, tree, Tree::Leaf(r))?;
+        tree = join(alloc, JOIN, tree, Tree::Leaf(r))?;
     }
     assert!(rt; check_cert(&query, &Cout, &tree, &bounds));
     // the last two relations, and all of them

@@ -13,7 +13,7 @@ returns-in_default g c =
 
 pub single-requires : goal.single-requires
 single-requires g c =
-    omega (arith, full_limit (relations c.args.query.now) c.in-Some-least.least (c.requires.within c.in-Some-least.least c.in-Some-least.ensures.0), c.n-n.ensures.valid.few)
+    omega (arith, full_limit (relations c.args.query.now) c.in-Some-least.least (c.requires.within c.in-Some-least.least c.in-Some-least.ensures.0), c.recall.ensures.few)
 
 pub seconds-init : goal.seconds-init
 seconds-init g c = none_tried g.M.CostModel.KIND c.args.query.now c.args.bounds.now c.args.s c.in-Some-least.least _ c.empty-second.ensures
