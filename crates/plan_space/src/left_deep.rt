@@ -70,8 +70,10 @@ fn with_last<M: CostModel>(
     if first == EMPTY || !graph.joined(last, left) {
         return EMPTY;
     }
-    let (l, o) = (cards.rows(left), cards.rows(s));
-    join_in_order(model, left, first, l, cards.rows(last), o)
+    let left_rows = cards.rows(left);
+    let last_rows = cards.rows(last);
+    let out = cards.rows(s);
+    join_in_order(model, left, first, left_rows, last_rows, out)
 }
 
 // The least word of a join of `s` that has a relation on its right, or `EMPTY`.
