@@ -20,7 +20,7 @@ use Rattle.pair_stream.proofs.OrderLaws.{MayPrecede, builds_itself}
 use Rattle.plan_space.specs.declared.class.Class.{Class}
 use Rattle.plan_space.specs.declared.class.Class.TheVariants.{Narrow, ZigZag}
 use Rattle.plan_space.specs.Classes.{SidesIn, JoinsIn, InClass, LeastIn}
-use Rattle.plan_space.specs.Laws.{ThinListsAreOrdered, ThinListsMakeTheClasses, ThinListsGiveLeastWords}
+use Rattle.plan_space.specs.Laws.{ThinListsHaveTheThinPairs, ThinListsAreOrdered, ThinListsMakeTheClasses, ThinListsGiveLeastWords}
 use Rattle.plan_space.specs.Thin.{is_thin, thin}
 use Rattle.plan_space.proofs.ClassLaws.{leaf_one, one_leaf}
 
@@ -195,4 +195,10 @@ pub thin_lists_give_least_words : ThinListsGiveLeastWords
 thin_lists_give_least_words kind q pairs s w ok all = (
   thin_least Narrow 2 kind q pairs narrow_of_two ok all.members s w,
   thin_least ZigZag 1 kind q pairs zig_zag_of_one ok all.members s w,
+)
+
+pub thin_lists_have_the_thin_pairs : ThinListsHaveTheThinPairs
+thin_lists_have_the_thin_pairs g width pairs p all = (
+  λ c. (thin_pairs g width pairs all p c, (of_thin width pairs p c).1),
+  λ h. in_thin width pairs p ((all p).1 h.0) h.1,
 )

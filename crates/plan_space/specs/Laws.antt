@@ -1,8 +1,10 @@
 -- The laws of the crate.
-use Rattle.std.specs.Prelude.{◌≡◌, ℕ, ◌≤◌, ◌↔◌, List}
+use Rattle.std.specs.Prelude.{◌≡◌, ℕ, ◌≤◌, ◌⊎◌, ◌↔◌, List, Contains}
 use Rattle.dpe_base.specs.declared.pair.Pair.{Pair}
 use Rattle.dpe_base.specs.Queries.{JoinQuery, IsQuery}
-use Rattle.join_graph.specs.Graphs.{JoinGraph, IsGraph, Connected, graph_of}
+use Rattle.dpe_base.specs.Sets.{size}
+use Rattle.join_graph.specs.Graphs.{JoinGraph, IsGraph, Connected, Pairs, graph_of}
+use Rattle.join_graph.specs.PairLists.{HasAllPairs}
 use Rattle.join_tree.specs.Trees.{JoinTree, Trees, Least, Best, Builds}
 use Rattle.pair_stream.specs.Orders.{Ordered, Complete}
 use Rattle.plan_space.specs.declared.class.Class.{Class}
@@ -55,3 +57,9 @@ abbrev pub ConnectedSetsHaveLeastWordsIn : Type 0
 ConnectedSetsHaveLeastWordsIn =
     (c : Class) (kind : ℕ) (q : JoinQuery) (s : ℕ) → IsQuery q
     → (Connected (graph_of q) s ↔ ((w : ℕ) × LeastIn c kind q s w)) × ((v w : ℕ) → LeastIn c kind q s v → LeastIn c kind q s w → v ≡ w)
+
+-- The thin pairs of a list of all pairs are the pairs of the graph that have a side of so few relations.
+abbrev pub ThinListsHaveTheThinPairs : Type 0
+ThinListsHaveTheThinPairs =
+    (g : JoinGraph) (width : ℕ) (pairs : List Pair) (p : Pair) → HasAllPairs g pairs
+    → Contains (thin width pairs) p ↔ (Pairs g p × ((size p.a ≤ width) ⊎ (size p.b ≤ width)))

@@ -1,5 +1,10 @@
 //! What holds of thin lists, and of the plans of a class.
-ghost use Rattle.plan_space.specs.Laws.{ThinListsAreOrdered, ThinListsMakeTheClasses, ThinListsGiveLeastWords, ConnectedSetsHaveLeastWordsIn, ConnectedSetsHaveOnePlanIn, ClassesAreNested, NarrowerClassesCostNoLess};
+ghost use Rattle.plan_space.specs.Laws.{ThinListsHaveTheThinPairs, ThinListsAreOrdered, ThinListsMakeTheClasses, ThinListsGiveLeastWords, ConnectedSetsHaveLeastWordsIn, ConnectedSetsHaveOnePlanIn, ClassesAreNested, NarrowerClassesCostNoLess};
+
+/// The thin pairs of a list of all pairs are those that have a side of so few relations.
+pub fn thin_lists_have_the_thin_pairs()
+    ensures { ThinListsHaveTheThinPairs }
+{}
 
 /// The thin pairs of a list that is complete and ordered are ordered, and build the sides of each.
 pub fn thin_lists_are_ordered()
