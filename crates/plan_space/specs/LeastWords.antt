@@ -11,7 +11,7 @@ use Rattle.join_tree.specs.Trees.{JoinTree, set_of}
 use Rattle.plan_space.specs.declared.class.Class.{Class}
 use Rattle.plan_space.specs.Classes.{InClass, LeastIn}
 
--- w is the least word of the class over s, or EMPTY where no tree of the class is over s
+-- w is the least word of the class over s, or EMPTY when no tree of the class is over s
 abbrev pub LeastOrEmpty : Class → ℕ → JoinQuery → ℕ → ℕ → Type 0
 LeastOrEmpty c kind q s w =
     LeastIn c kind q s w ⊎ ((w ≡ EMPTY) × ((t : JoinTree) → InClass c kind (graph_of q) t → set_of t ≡ s → ⊥))
@@ -23,7 +23,7 @@ HasLeastWords c kind q words s =
 
 -- ---- the steps of `left_words`
 
--- w is the least of the words, or EMPTY where there is none
+-- w is the least of the words, or EMPTY when there is none
 pub record IsLeastOf (IsWord : ℕ → Type 0) (w : ℕ) : Type 0 where
   pub one : (w ≡ EMPTY) ⊎ IsWord w
   pub least : (v : ℕ) → IsWord v → w ≤ v

@@ -23,7 +23,7 @@ struct Root {
     right: RelSet,
 }
 
-// The only relation of the set, where it has one.
+// The only relation of a set that has one.
 #[tactic(auto, using(crate::proofs::RootLaws::least_alone, crate::proofs::RootLaws::none_alone))]
 fn alone(s: RelSet) -> Option<u8>
     ensures { MatchOption result (size s ≢ 1) (λ r. s ≡ single r) }
@@ -62,7 +62,7 @@ fn joined(alloc: Global, op: u8, left: Tree, right: Tree) -> Result<Tree, AllocE
 /// The plan of the relations of `s` in the class: the word of each set, which is the least of the class, names the operator and
 /// the left side of its root.
 ///
-/// Fails where there is no memory.
+/// Fails when memory runs out.
 pub fn build_class<M: CostModel>(
     alloc: Global,
     query: &Query,

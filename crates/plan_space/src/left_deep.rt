@@ -46,7 +46,7 @@ fn join_in_order<M: CostModel>(model: &M, left: RelSet, first: u64, l: u64, r: u
     least
 }
 
-// The least word of a join of the rest of `s` with its relation `r`, or `EMPTY` where they don't join.
+// The least word of a join of the rest of `s` with its relation `r`, or `EMPTY` when they don't join.
 fn with_last<M: CostModel>(
     model: &M,
     graph: &Graph,
@@ -126,10 +126,10 @@ fn left_word<M: CostModel>(
     }
 }
 
-/// The least word of the left-deep trees over each set of relations, at the set's number, or `EMPTY` where no left-deep tree is over the
-/// set. It makes at most a step for each set and each of its relations.
+/// The least word of the left-deep trees over each set of relations, at the set's number, or `EMPTY` when no left-deep tree is over the
+/// set. It takes at most one step for each set and each of its relations.
 ///
-/// Fails where there is no memory.
+/// Fails when memory runs out.
 pub fn left_words<M: CostModel>(
     alloc: Global,
     query: &Query,
