@@ -11,6 +11,7 @@ use Rattle.dpe_base.proofs.SizeLaws.{size_none, size_one, size-single}
 use Rattle.join_graph.specs.Graphs.{JoinGraph, Crossed, Connected, graph_of}
 use Rattle.card_scaled.specs.Cards.{RowTable, rows, IsCardTable}
 use Rattle.card_scaled.proofs.CardLaws.{rows_bounds}
+use Rattle.cost_model.specs.declared.model.TheConstants.{LEAF}
 use Rattle.cost_model.specs.Costs.{operators, join_cost}
 use Rattle.cost_model.specs.Words.{word, word_cost}
 use Rattle.cost_model.proofs.WordLaws.{word-below}
@@ -47,16 +48,16 @@ rows_in table n s row all e some within is = rw is (all s some (subst (λ k. Wit
 
 -- ---- operators
 
-pub joins_next : (n kind left first below l r o v here m : ℕ) → IsLeastOf (JoinsBelow n kind left first l r o) v → below ≡ word_cost first → here ≡ word (below + join_cost kind n l r o) n left → m ≡ min v here → IsLeastOf (JoinsBelow (n + 1) kind left first l r o) m
-joins_next n kind left first below l r o v here m x e f is =
+pub joins_next : (n model left first below l r o v here m : ℕ) → IsLeastOf (JoinsBelow n model left first l r o) v → below ≡ word_cost first → here ≡ word (below + join_cost model n l r o) n left → m ≡ min v here → IsLeastOf (JoinsBelow (n + 1) model left first l r o) m
+joins_next n model left first below l r o v here m x e f is =
     let one : suc n ≡ n + 1 = omega arith in
-    rw is (subst (λ (k : ℕ). IsLeastOf (JoinsBelow k kind left first l r o) (min v here)) one (joins_more kind n left first l r o v here x (f ∙ ap (λ (k : ℕ). word (k + join_cost kind n l r o) n left) e)))
+    rw is (subst (λ (k : ℕ). IsLeastOf (JoinsBelow k model left first l r o) (min v here)) one (joins_more model n left first l r o v here x (f ∙ ap (λ (k : ℕ). word (k + join_cost model n l r o) n left) e)))
 
 -- ---- last relations
 
-pub ends_with : (kind : ℕ) (g : JoinGraph) (table words : List ℕ) (s r last left bits l k o w : ℕ) → last ≡ single r → left ≡ minus s last → bits ≡ left → l ≡ slice_index table left → k ≡ slice_index table last → o ≡ slice_index table s → slice_index words bits ≢ EMPTY → Crossed g last left → IsLeastOf (JoinsBelow (operators kind) kind left (slice_index words bits) l k o) w → IsLeastOf (EndsWith kind g table words s r) w
-ends_with kind g table words s r last left bits l k o w is_last is_left is_bits is_l is_k is_o some crossed x =
-    least_again (JoinsBelow (operators kind) kind left (slice_index words bits) l k o) (EndsWith kind g table words s r) w
+pub ends_with : (model : ℕ) (g : JoinGraph) (table words : List ℕ) (s r last left bits l k o w : ℕ) → last ≡ single r → left ≡ minus s last → bits ≡ left → l ≡ slice_index table left → k ≡ slice_index table last → o ≡ slice_index table s → slice_index words bits ≢ EMPTY → Crossed g last left → IsLeastOf (JoinsBelow (operators model) model left (slice_index words bits) l k o) w → IsLeastOf (EndsWith model g table words s r) w
+ends_with model g table words s r last left bits l k o w is_last is_left is_bits is_l is_k is_o some crossed x =
+    least_again (JoinsBelow (operators model) model left (slice_index words bits) l k o) (EndsWith model g table words s r) w
     (λ v h. (λ e. some (first ∙ ap (slice_index words) whole ∙ e), rw (← whole, ← is_last) crossed, rw (← whole, ← first, ← is_l, ← is_last, ← is_k, ← is_o) h))
     (λ v h. rw (← whole, ← first, ← is_l, ← is_last, ← is_k, ← is_o) at h.2)
     x
@@ -75,24 +76,24 @@ pub fewer_within : (s rest one later : ℕ) → Within rest s → later ≡ minu
 fewer_within s rest one later within e k h = within k (minus_left rest one k (subst (λ a. Has a k) e h))
 
 abbrev VisitedEndsWith : ℕ → JoinGraph → List ℕ → List ℕ → ℕ → ℕ → ℕ → Type 0
-VisitedEndsWith kind g table words s rest v = (r : ℕ) × (Has rest r → ⊥) × Has s r × EndsWith kind g table words s r v
+VisitedEndsWith model g table words s rest v = (r : ℕ) × (Has rest r → ⊥) × Has s r × EndsWith model g table words s r v
 
-pub last_next : (kind : ℕ) (g : JoinGraph) (table words : List ℕ) (s rest r one later v here m : ℕ) → Within rest s → Has rest r → one ≡ single r → later ≡ minus rest one → IsLeastOf (VisitedEndsWith kind g table words s rest) v → IsLeastOf (EndsWith kind g table words s r) here → m ≡ min v here → IsLeastOf (VisitedEndsWith kind g table words s later) m
-last_next kind g table words s rest r one later v here m within has is_one is_later x y is =
-    rw is (least_both (VisitedEndsWith kind g table words s rest) (EndsWith kind g table words s r) (VisitedEndsWith kind g table words s later) v here x y
+pub last_next : (model : ℕ) (g : JoinGraph) (table words : List ℕ) (s rest r one later v here m : ℕ) → Within rest s → Has rest r → one ≡ single r → later ≡ minus rest one → IsLeastOf (VisitedEndsWith model g table words s rest) v → IsLeastOf (EndsWith model g table words s r) here → m ≡ min v here → IsLeastOf (VisitedEndsWith model g table words s later) m
+last_next model g table words s rest r one later v here m within has is_one is_later x y is =
+    rw is (least_both (VisitedEndsWith model g table words s rest) (EndsWith model g table words s r) (VisitedEndsWith model g table words s later) v here x y
     (λ u h. (h.0, (λ in_later. h.1 (minus_left rest one h.0 (subst (λ a. Has a h.0) is_later in_later))), h.2, h.3))
     (λ u h. (r, gone, within r has, h))
     (λ u h. elim (cases_eq h.0 r) [
-      | inl same ↦ inr (subst (λ a. EndsWith kind g table words s a u) same h.3)
+      | inl same ↦ inr (subst (λ a. EndsWith model g table words s a u) same h.3)
       | inr other ↦ inl (h.0, (λ in_rest. h.1 (subst (λ a. Has a h.0) (sym is_later) (minus_has rest one h.0 in_rest (λ z. other (sym (single_one r h.0 (subst (λ a. Has a h.0) is_one z))))))), h.2, h.3)
     ]))
   where
     gone : Has later r → ⊥
     gone h = grind (arith, sets, h, member-same is_later r, member-same is_one r)
 
-pub last_all : (kind : ℕ) (g : JoinGraph) (table words : List ℕ) (s rest v : ℕ) → rest ≡ 0 → IsLeastOf (VisitedEndsWith kind g table words s rest) v → IsLeastOf (λ u. (r : ℕ) × Has s r × EndsWith kind g table words s r u) v
-last_all kind g table words s rest v none x =
-    least_again (VisitedEndsWith kind g table words s rest) (λ u. (r : ℕ) × Has s r × EndsWith kind g table words s r u) v
+pub last_all : (model : ℕ) (g : JoinGraph) (table words : List ℕ) (s rest v : ℕ) → rest ≡ 0 → IsLeastOf (VisitedEndsWith model g table words s rest) v → IsLeastOf (λ u. (r : ℕ) × Has s r × EndsWith model g table words s r u) v
+last_all model g table words s rest v none x =
+    least_again (VisitedEndsWith model g table words s rest) (λ u. (r : ℕ) × Has s r × EndsWith model g table words s r u) v
     (λ u h. (h.0, h.2, h.3))
     (λ u h. (h.0, (λ z. grind (arith, sets, z, member-same none h.0)), h.1, h.2))
     x
@@ -103,22 +104,22 @@ pub has_rows : (q : JoinQuery) (table : RowTable) → IsCardTable q table → Ha
 has_rows q table is s some within =
     rw (is.each s some (subst (λ n. Within s (full n)) is.sized within)) (rows_bounds q s)
 
-pub left_alone : (kind : ℕ) (q : JoinQuery) (s len w : ℕ) → IsQuery q → Within s (full (relations q)) → len ≡ size s → len ≡ 1 → w ≡ word 0 3 s → LeastOrEmpty LeftDeep kind q s w
-left_alone kind q s len w ok known is one e =
+pub left_alone : (model : ℕ) (q : JoinQuery) (s len w : ℕ) → IsQuery q → Within s (full (relations q)) → len ≡ size s → len ≡ 1 → w ≡ word 0 LEAF s → LeastOrEmpty LeftDeep model q s w
+left_alone model q s len w ok known is one e =
     let r : (r : ℕ) × (s ≡ single r) = size_one s (omega (arith, is, one)) in
     let in_q : r.0 < relations q = full_limit (relations q) r.0 (known r.0 (grind (arith, sets, member-same r.1 r.0))) in
-    let here : w ≡ leaf_word r.0 = omega (arith, e, word-below 0 3 s (omega arith), r.1) in
-    inl (rw here (subst (λ x. LeastIn LeftDeep kind q x (leaf_word r.0)) (sym r.1) (left_leaf kind q ok r.0 in_q)))
+    let here : w ≡ leaf_word r.0 = omega (arith, e, word-below 0 LEAF s (omega arith), r.1) in
+    inl (rw here (subst (λ x. LeastIn LeftDeep model q x (leaf_word r.0)) (sym r.1) (left_leaf model q ok r.0 in_q)))
 
-module _ (kind : ℕ) (q : JoinQuery) (g : JoinGraph) (table : RowTable) (words : List ℕ) (s : ℕ) (ok : IsQuery q) (is_graph : g ≡ graph_of q) (cards : IsCardTable q table) (known : Within s (full (relations q))) (some : s ≢ 0) (smaller : (x : ℕ) → x < s → LeastOrEmpty LeftDeep kind q x (slice_index words x)) where
+module _ (model : ℕ) (q : JoinQuery) (g : JoinGraph) (table : RowTable) (words : List ℕ) (s : ℕ) (ok : IsQuery q) (is_graph : g ≡ graph_of q) (cards : IsCardTable q table) (known : Within s (full (relations q))) (some : s ≢ 0) (smaller : (x : ℕ) → x < s → LeastOrEmpty LeftDeep model q x (slice_index words x)) where
   rest_within : (r : ℕ) → Within (minus s (single r)) (full (relations q))
   rest_within r k h = known k (minus_left s (single r) k h)
 
   one_within : (r : ℕ) → Has s r → Within (single r) (full (relations q))
   one_within r has = last_within (relations q) s r (single r) known has refl
 
-  word_of_rest : (r : ℕ) → Has s r → Connected (graph_of q) (minus s (single r)) → LeastIn LeftDeep kind q (minus s (single r)) (slice_index words (minus s (single r)))
-  word_of_rest r has c = left_least kind q ok _ _ c (smaller (minus s (single r)) (rest_smaller s r has))
+  word_of_rest : (r : ℕ) → Has s r → Connected (graph_of q) (minus s (single r)) → LeastIn LeftDeep model q (minus s (single r)) (slice_index words (minus s (single r)))
+  word_of_rest r has c = left_least model q ok _ _ c (smaller (minus s (single r)) (rest_smaller s r has))
 
   row_rest : (r : ℕ) → Connected (graph_of q) (minus s (single r)) → slice_index table.rows (minus s (single r)) ≡ rows q (minus s (single r))
   row_rest r c = cards.each _ c.some (rest_within r)
@@ -129,30 +130,30 @@ module _ (kind : ℕ) (q : JoinQuery) (g : JoinGraph) (table : RowTable) (words 
   row_all : slice_index table.rows s ≡ rows q s
   row_all = cards.each s some known
 
-  to_last : (r v : ℕ) → Has s r → EndsWith kind g table.rows words s r v → LastIn kind q ok s r v
+  to_last : (r v : ℕ) → Has s r → EndsWith model g table.rows words s r v → LastIn model q ok s r v
   to_last r v has h =
       elim (smaller (minus s (single r)) (rest_smaller s r has)) [
         | inr none ↦ absurd (h.0 none.0)
         | inl least ↦
-            let c : Connected (graph_of q) (minus s (single r)) = least_connected LeftDeep kind q ok _ _ least in
+            let c : Connected (graph_of q) (minus s (single r)) = least_connected LeftDeep model q ok _ _ least in
             (slice_index words (minus s (single r)), least, subst (λ x. Crossed x (single r) (minus s (single r))) is_graph h.1, rw (← row_rest r c, ← row_one r has, ← row_all) h.2)
       ]
 
-  from_last : (r v : ℕ) → Has s r → LastIn kind q ok s r v → EndsWith kind g table.rows words s r v
+  from_last : (r v : ℕ) → Has s r → LastIn model q ok s r v → EndsWith model g table.rows words s r v
   from_last r v has h =
-      let c : Connected (graph_of q) (minus s (single r)) = least_connected LeftDeep kind q ok _ _ h.1 in
-      let mine : LeastIn LeftDeep kind q (minus s (single r)) (slice_index words (minus s (single r))) = word_of_rest r has c in
-      let same : slice_index words (minus s (single r)) ≡ h.0 = least_same LeftDeep kind q ok _ _ _ mine h.1 in (
-        λ e. omega (arith, e, least_not_empty LeftDeep kind q ok _ _ mine),
+      let c : Connected (graph_of q) (minus s (single r)) = least_connected LeftDeep model q ok _ _ h.1 in
+      let mine : LeastIn LeftDeep model q (minus s (single r)) (slice_index words (minus s (single r))) = word_of_rest r has c in
+      let same : slice_index words (minus s (single r)) ≡ h.0 = least_same LeftDeep model q ok _ _ _ mine h.1 in (
+        λ e. omega (arith, e, least_not_empty LeftDeep model q ok _ _ mine),
         subst (λ x. Crossed x (single r) (minus s (single r))) (sym is_graph) h.2,
         rw (row_rest r c, row_one r has, row_all, same) h.3,
       )
 
-  pub left_many : (w : ℕ) → 2 ≤ size s → IsLeastOf (λ v. (r : ℕ) × Has s r × EndsWith kind g table.rows words s r v) w → LeastOrEmpty LeftDeep kind q s w
+  pub left_many : (w : ℕ) → 2 ≤ size s → IsLeastOf (λ v. (r : ℕ) × Has s r × EndsWith model g table.rows words s r v) w → LeastOrEmpty LeftDeep model q s w
   left_many w many x =
-      left_step kind q ok s w known many
-      (λ y lt c. (slice_index words y, left_least kind q ok y (slice_index words y) c (smaller y lt)))
-      (least_again (λ v. (r : ℕ) × Has s r × EndsWith kind g table.rows words s r v) (AnyLast kind q ok s) w
+      left_step model q ok s w known many
+      (λ y lt c. (slice_index words y, left_least model q ok y (slice_index words y) c (smaller y lt)))
+      (least_again (λ v. (r : ℕ) × Has s r × EndsWith model g table.rows words s r v) (AnyLast model q ok s) w
       (λ v h. (h.0, h.1, to_last h.0 v h.1 h.2))
       (λ v h. (h.0, h.1, from_last h.0 v h.1 h.2))
       x)
@@ -165,14 +166,14 @@ below_within s n l r h = elim (cases_lt r n) [ inl lt ↦ grind (arith, sets) | 
 pub size_is : (q : JoinQuery) (n : ℕ) → IsQuery q → n ≡ relations q → 1 * 2 ^ n % 2 ^ 64 ≡ 2 ^ relations q
 size_is q n ok e = one_shl n 64 (omega (arith, e, ok.few)) ∙ ap (λ (k : ℕ). 2 ^ k) e
 
-pub words_first : (kind : ℕ) (q : JoinQuery) (count : ℕ) (words : List ℕ) → IsQuery q → count ≡ 2 ^ relations q → words ≡ replicate count EMPTY → (length words ≡ 2 ^ relations q) × ((s : ℕ) → s < 1 → LeastOrEmpty LeftDeep kind q s (slice_index words s))
-words_first kind q count words ok is e = (ap length e ∙ length-replicate count EMPTY ∙ is, places)
+pub words_first : (model : ℕ) (q : JoinQuery) (count : ℕ) (words : List ℕ) → IsQuery q → count ≡ 2 ^ relations q → words ≡ replicate count EMPTY → (length words ≡ 2 ^ relations q) × ((s : ℕ) → s < 1 → LeastOrEmpty LeftDeep model q s (slice_index words s))
+words_first model q count words ok is e = (ap length e ∙ length-replicate count EMPTY ∙ is, places)
   where
     some : 0 < count
     some = omega (arith, is, pow_pos (relations q))
 
-    places : (s : ℕ) → s < 1 → LeastOrEmpty LeftDeep kind q s (slice_index words s)
+    places : (s : ℕ) → s < 1 → LeastOrEmpty LeftDeep model q s (slice_index words s)
     places s l =
         let none : s ≡ 0 = omega (arith, l) in
         let here : slice_index words s ≡ EMPTY = rw (none, e) (get_or-replicate count 0 EMPTY 0 some) in
-        rw (here, none) (left_empty kind q ok)
+        rw (here, none) (left_empty model q ok)

@@ -19,14 +19,14 @@ zig_zag_joins (join op l r) j = (
 )
 
 pub classes_are_nested : ClassesAreNested
-classes_are_nested kind g t = (
+classes_are_nested model g t = (
   λ i. record { legal = i.legal; joins = left_deep_joins t i.joins },
   λ i. record { legal = i.legal; joins = zig_zag_joins t i.joins },
 )
 
 pub narrower_classes_cost_no_less : NarrowerClassesCostNoLess
-narrower_classes_cost_no_less kind q s best narrow zig_zag left_deep b n z l = (
+narrower_classes_cost_no_less model q s best narrow zig_zag left_deep b n z l = (
   b.least n.some.0 narrow n.some.1.legal n.some.2 n.some.3,
-  n.least z.some.0 zig_zag ((classes_are_nested kind _ z.some.0).1 z.some.1) z.some.2 z.some.3,
-  z.least l.some.0 left_deep ((classes_are_nested kind _ l.some.0).0 l.some.1) l.some.2 l.some.3,
+  n.least z.some.0 zig_zag ((classes_are_nested model _ z.some.0).1 z.some.1) z.some.2 z.some.3,
+  z.least l.some.0 left_deep ((classes_are_nested model _ l.some.0).0 l.some.1) l.some.2 l.some.3,
 )

@@ -25,30 +25,30 @@ pub none_alone : (s : ℕ) → s ≡ 0 → size s ≡ 1 → ⊥
 none_alone s e one = omega (arith, ap size e, size-empty)
 
 -- the least word of a relation is its leaf's, in every class
-least_leaf : (c : Class) (kind : ℕ) (q : JoinQuery) (r : ℕ) → r < relations q → LeastIn c kind q (single r) (leaf_word r)
-least_leaf c kind q r known =
+least_leaf : (c : Class) (model : ℕ) (q : JoinQuery) (r : ℕ) → r < relations q → LeastIn c model q (single r) (leaf_word r)
+least_leaf c model q r known =
     record {
       some = (leaf r, record { legal = known; joins = tt }, refl, record { below = omega arith; is = refl });
       least = λ t v i over has. only t v i over has;
     }
   where
-    only : (t : JoinTree) (v : ℕ) → InClass c kind (graph_of q) t → set_of t ≡ single r → HasWord kind q t v → leaf_word r ≤ v
+    only : (t : JoinTree) (v : ℕ) → InClass c model (graph_of q) t → set_of t ≡ single r → HasWord model q t v → leaf_word r ≤ v
     only (leaf k) v i over has = omega (arith, has.is, over)
-    only (join op x y) v i over has = absurd (omega (arith, join_size kind (graph_of q) op x y i.legal, ap size over, size-single r))
+    only (join op x y) v i over has = absurd (omega (arith, join_size model (graph_of q) op x y i.legal, ap size over, size-single r))
 
-pub plan_alone : (c : Class) (kind : ℕ) (q : JoinQuery) (s r : ℕ) → s ≡ single r → Connected (graph_of q) s → PlanIn c kind q s (leaf r)
-plan_alone c kind q s r e cs = subst (λ u. PlanIn c kind q u (leaf r)) (sym e) here
+pub plan_alone : (c : Class) (model : ℕ) (q : JoinQuery) (s r : ℕ) → s ≡ single r → Connected (graph_of q) s → PlanIn c model q s (leaf r)
+plan_alone c model q s r e cs = subst (λ u. PlanIn c model q u (leaf r)) (sym e) here
   where
     known : r < relations q
     known = connected_single_known (graph_of q) s r cs e
 
-    here : PlanIn c kind q (single r) (leaf r)
-    here = record { in_class = record { legal = known; joins = tt }; over = refl; best = least_leaf c kind q r known }
+    here : PlanIn c model q (single r) (leaf r)
+    here = record { in_class = record { legal = known; joins = tt }; over = refl; best = least_leaf c model q r known }
 
 -- the root that the least word names
-pub is_root : (c : Class) (kind : ℕ) (q : JoinQuery) (s w : ℕ) (root : Root) → IsQuery q → size s ≢ 1 → LeastIn c kind q s w → root.op ≡ word_op w → root.left ≡ word_left w → root.right ≡ minus s (word_left w) → IsRootIn c kind q s root
-is_root c kind q s w root ok many least is_op is_left is_right =
-    let named : IsPlanRootIn c kind q s (word_op w) (word_left w) (minus s (word_left w)) = plan_root c kind q ok s w least many in
+pub is_root : (c : Class) (model : ℕ) (q : JoinQuery) (s w : ℕ) (root : Root) → IsQuery q → size s ≢ 1 → LeastIn c model q s w → root.op ≡ word_op w → root.left ≡ word_left w → root.right ≡ minus s (word_left w) → IsRootIn c model q s root
+is_root c model q s w root ok many least is_op is_left is_right =
+    let named : IsPlanRootIn c model q s (word_op w) (word_left w) (minus s (word_left w)) = plan_root c model q ok s w least many in
     record {
       left = rw is_left (record { connected = named.left_connected; within = named.left_within; smaller = named.left_smaller });
       right = rw is_right (record { connected = named.right_connected; within = named.right_within; smaller = named.right_smaller });

@@ -125,18 +125,18 @@ thin_lists_are_ordered g width pairs ok some all order = (
 -- the class asks of each join for a side of so many relations at most
 abbrev pub IsOfWidth : Class → ℕ → Type 0
 IsOfWidth c width =
-    (kind : ℕ) (g : JoinGraph) (l r : JoinTree) → Legal kind g l → Legal kind g r → SidesIn c l r ↔ SmallSide width (set_of l) (set_of r)
+    (model : ℕ) (g : JoinGraph) (l r : JoinTree) → Legal model g l → Legal model g r → SidesIn c l r ↔ SmallSide width (set_of l) (set_of r)
 
 pub narrow_of_two : IsOfWidth Narrow 2
-narrow_of_two kind g l r m n = (λ h. h, λ h. h)
+narrow_of_two model g l r m n = (λ h. h, λ h. h)
 
 pub zig_zag_of_one : IsOfWidth ZigZag 1
-zig_zag_of_one kind g l r m n = (
+zig_zag_of_one model g l r m n = (
   λ h. elim h [ inl x ↦ inl (leaf_one l x) | inr x ↦ inr (leaf_one r x) ],
-  λ h. elim h [ inl x ↦ inl (one_leaf kind g l m x) | inr x ↦ inr (one_leaf kind g r n x) ],
+  λ h. elim h [ inl x ↦ inl (one_leaf model g l m x) | inr x ↦ inr (one_leaf model g r n x) ],
 )
 
-module _ (c : Class) (width kind : ℕ) (q : JoinQuery) (pairs : List Pair) (of_width : IsOfWidth c width) (ok : IsQuery q) (all : HasAllPairs (graph_of q) pairs) where
+module _ (c : Class) (width model : ℕ) (q : JoinQuery) (pairs : List Pair) (of_width : IsOfWidth c width) (ok : IsQuery q) (all : HasAllPairs (graph_of q) pairs) where
   thin_within : (p : Pair) → Contains (thin width pairs) p → Pairs (graph_of q) p
   thin_within p h = thin_pairs (graph_of q) width pairs all p h
 
@@ -147,33 +147,33 @@ module _ (c : Class) (width kind : ℕ) (q : JoinQuery) (pairs : List Pair) (of_
         | inr x ↦ elim (of_thin width pairs (pair_of b a) x).1 [ inl y ↦ inr y | inr y ↦ inl y ]
       ]
 
-  made_joins : (t : JoinTree) → Trees kind q (thin width pairs) t → JoinsIn c t
+  made_joins : (t : JoinTree) → Trees model q (thin width pairs) t → JoinsIn c t
   made_joins (leaf r) m = tt
   made_joins (join op l r) m = (
-    (of_width kind (graph_of q) l r (made_legal kind q (thin width pairs) thin_within l m.1) (made_legal kind q (thin width pairs) thin_within r m.2)).1 (small_of (set_of l) (set_of r) m.3),
+    (of_width model (graph_of q) l r (made_legal model q (thin width pairs) thin_within l m.1) (made_legal model q (thin width pairs) thin_within r m.2)).1 (small_of (set_of l) (set_of r) m.3),
     made_joins l m.1,
     made_joins r m.2,
   )
 
-  class_made : (t : JoinTree) → Legal kind (graph_of q) t → JoinsIn c t → Trees kind q (thin width pairs) t
+  class_made : (t : JoinTree) → Legal model (graph_of q) t → JoinsIn c t → Trees model q (thin width pairs) t
   class_made (leaf r) m j = m
   class_made (join op l r) m j = (
     m.0,
     class_made l m.1 j.1,
     class_made r m.2 j.2,
-    elim (pair_either (graph_of q) (set_of l) (set_of r) ok.few (legal_connected kind (graph_of q) l m.1) (legal_connected kind (graph_of q) r m.2) m.3 m.4) [
-      | inl p ↦ inl (in_thin width pairs _ ((all _).1 p) ((of_width kind (graph_of q) l r m.1 m.2).0 j.0))
-      | inr p ↦ inr (in_thin width pairs _ ((all _).1 p) (elim ((of_width kind (graph_of q) l r m.1 m.2).0 j.0) [ inl x ↦ inr x | inr x ↦ inl x ]))
+    elim (pair_either (graph_of q) (set_of l) (set_of r) ok.few (legal_connected model (graph_of q) l m.1) (legal_connected model (graph_of q) r m.2) m.3 m.4) [
+      | inl p ↦ inl (in_thin width pairs _ ((all _).1 p) ((of_width model (graph_of q) l r m.1 m.2).0 j.0))
+      | inr p ↦ inr (in_thin width pairs _ ((all _).1 p) (elim ((of_width model (graph_of q) l r m.1 m.2).0 j.0) [ inl x ↦ inr x | inr x ↦ inl x ]))
     ],
   )
 
-  thin_makes : (t : JoinTree) → Trees kind q (thin width pairs) t ↔ InClass c kind (graph_of q) t
+  thin_makes : (t : JoinTree) → Trees model q (thin width pairs) t ↔ InClass c model (graph_of q) t
   thin_makes t = (
-    λ m. record { legal = made_legal kind q (thin width pairs) thin_within t m; joins = made_joins t m },
+    λ m. record { legal = made_legal model q (thin width pairs) thin_within t m; joins = made_joins t m },
     λ i. class_made t i.legal i.joins,
   )
 
-  pub thin_least : (s w : ℕ) → Least kind q (thin width pairs) s w ↔ LeastIn c kind q s w
+  pub thin_least : (s w : ℕ) → Least model q (thin width pairs) s w ↔ LeastIn c model q s w
   thin_least s w = (
     λ x. record {
       some = (x.made.tree, (thin_makes x.made.tree).0 x.made.made, x.made.over, x.made.word);
@@ -186,15 +186,15 @@ module _ (c : Class) (width kind : ℕ) (q : JoinQuery) (pairs : List Pair) (of_
   )
 
 pub thin_lists_make_the_classes : ThinListsMakeTheClasses
-thin_lists_make_the_classes kind q pairs t ok all = (
-  thin_makes Narrow 2 kind q pairs narrow_of_two ok all.members t,
-  thin_makes ZigZag 1 kind q pairs zig_zag_of_one ok all.members t,
+thin_lists_make_the_classes model q pairs t ok all = (
+  thin_makes Narrow 2 model q pairs narrow_of_two ok all.members t,
+  thin_makes ZigZag 1 model q pairs zig_zag_of_one ok all.members t,
 )
 
 pub thin_lists_give_least_words : ThinListsGiveLeastWords
-thin_lists_give_least_words kind q pairs s w ok all = (
-  thin_least Narrow 2 kind q pairs narrow_of_two ok all.members s w,
-  thin_least ZigZag 1 kind q pairs zig_zag_of_one ok all.members s w,
+thin_lists_give_least_words model q pairs s w ok all = (
+  thin_least Narrow 2 model q pairs narrow_of_two ok all.members s w,
+  thin_least ZigZag 1 model q pairs zig_zag_of_one ok all.members s w,
 )
 
 pub thin_lists_have_the_thin_pairs : ThinListsHaveTheThinPairs

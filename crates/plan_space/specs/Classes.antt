@@ -23,17 +23,17 @@ JoinsIn c (leaf r) = Unit
 JoinsIn c (join op left right) = SidesIn c left right × JoinsIn c left × JoinsIn c right
 
 -- a legal tree, each of whose joins is one of the class
-pub record InClass (c : Class) (kind : ℕ) (g : JoinGraph) (t : JoinTree) : Type 0 where
-  pub legal : Legal kind g t
+pub record InClass (c : Class) (model : ℕ) (g : JoinGraph) (t : JoinTree) : Type 0 where
+  pub legal : Legal model g t
   pub joins : JoinsIn c t
 
 -- w is the word of a tree of the class over s, and no tree of the class over s has a smaller word
-pub record LeastIn (c : Class) (kind : ℕ) (q : JoinQuery) (s w : ℕ) : Type 0 where
-  pub some : (t : JoinTree) × InClass c kind (graph_of q) t × (set_of t ≡ s) × HasWord kind q t w
-  pub least : (t : JoinTree) (v : ℕ) → InClass c kind (graph_of q) t → set_of t ≡ s → HasWord kind q t v → w ≤ v
+pub record LeastIn (c : Class) (model : ℕ) (q : JoinQuery) (s w : ℕ) : Type 0 where
+  pub some : (t : JoinTree) × InClass c model (graph_of q) t × (set_of t ≡ s) × HasWord model q t w
+  pub least : (t : JoinTree) (v : ℕ) → InClass c model (graph_of q) t → set_of t ≡ s → HasWord model q t v → w ≤ v
 
 -- the tree of the class over s in which each tree has the least word of the class over its set
-pub record PlanIn (c : Class) (kind : ℕ) (q : JoinQuery) (s : ℕ) (t : JoinTree) : Type 0 where
-  pub in_class : InClass c kind (graph_of q) t
+pub record PlanIn (c : Class) (model : ℕ) (q : JoinQuery) (s : ℕ) (t : JoinTree) : Type 0 where
+  pub in_class : InClass c model (graph_of q) t
   pub over : set_of t ≡ s
-  pub best : EverySubtree (λ u. LeastIn c kind q (set_of u) (root_word kind q u)) t
+  pub best : EverySubtree (λ u. LeastIn c model q (set_of u) (root_word model q u)) t

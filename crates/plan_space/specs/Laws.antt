@@ -22,41 +22,41 @@ ThinListsAreOrdered =
 -- and they make the trees of a class: of two relations Narrow, of one ZigZag.
 abbrev pub ThinListsMakeTheClasses : Type 0
 ThinListsMakeTheClasses =
-    (kind : ℕ) (q : JoinQuery) (pairs : List Pair) (t : JoinTree) → IsQuery q → Complete (graph_of q) pairs
-    → (Trees kind q (thin 2 pairs) t ↔ InClass Narrow kind (graph_of q) t)
-    × (Trees kind q (thin 1 pairs) t ↔ InClass ZigZag kind (graph_of q) t)
+    (model : ℕ) (q : JoinQuery) (pairs : List Pair) (t : JoinTree) → IsQuery q → Complete (graph_of q) pairs
+    → (Trees model q (thin 2 pairs) t ↔ InClass Narrow model (graph_of q) t)
+    × (Trees model q (thin 1 pairs) t ↔ InClass ZigZag model (graph_of q) t)
 
 -- So over them the least words are those of the class.
 abbrev pub ThinListsGiveLeastWords : Type 0
 ThinListsGiveLeastWords =
-    (kind : ℕ) (q : JoinQuery) (pairs : List Pair) (s w : ℕ) → IsQuery q → Complete (graph_of q) pairs
-    → (Least kind q (thin 2 pairs) s w ↔ LeastIn Narrow kind q s w)
-    × (Least kind q (thin 1 pairs) s w ↔ LeastIn ZigZag kind q s w)
+    (model : ℕ) (q : JoinQuery) (pairs : List Pair) (s w : ℕ) → IsQuery q → Complete (graph_of q) pairs
+    → (Least model q (thin 2 pairs) s w ↔ LeastIn Narrow model q s w)
+    × (Least model q (thin 1 pairs) s w ↔ LeastIn ZigZag model q s w)
 
 -- The connected sets are those that have a plan in the class. A set has at most one.
 abbrev pub ConnectedSetsHaveOnePlanIn : Type 0
 ConnectedSetsHaveOnePlanIn =
-    (c : Class) (kind : ℕ) (q : JoinQuery) (s : ℕ) → IsQuery q
-    → (Connected (graph_of q) s ↔ ((t : JoinTree) × PlanIn c kind q s t)) × ((t u : JoinTree) → PlanIn c kind q s t → PlanIn c kind q s u → t ≡ u)
+    (c : Class) (model : ℕ) (q : JoinQuery) (s : ℕ) → IsQuery q
+    → (Connected (graph_of q) s ↔ ((t : JoinTree) × PlanIn c model q s t)) × ((t u : JoinTree) → PlanIn c model q s t → PlanIn c model q s u → t ≡ u)
 
 -- A left-deep tree is a zig-zag tree, and a zig-zag tree is a narrow one.
 abbrev pub ClassesAreNested : Type 0
 ClassesAreNested =
-    (kind : ℕ) (g : JoinGraph) (t : JoinTree)
-    → (InClass LeftDeep kind g t → InClass ZigZag kind g t) × (InClass ZigZag kind g t → InClass Narrow kind g t)
+    (model : ℕ) (g : JoinGraph) (t : JoinTree)
+    → (InClass LeftDeep model g t → InClass ZigZag model g t) × (InClass ZigZag model g t → InClass Narrow model g t)
 
 -- So a narrower class has no smaller word, and none has a smaller one than all legal trees.
 abbrev pub NarrowerClassesCostNoLess : Type 0
 NarrowerClassesCostNoLess =
-    (kind : ℕ) (q : JoinQuery) (s best narrow zig_zag left_deep : ℕ)
-    → Best kind q s best → LeastIn Narrow kind q s narrow → LeastIn ZigZag kind q s zig_zag → LeastIn LeftDeep kind q s left_deep
+    (model : ℕ) (q : JoinQuery) (s best narrow zig_zag left_deep : ℕ)
+    → Best model q s best → LeastIn Narrow model q s narrow → LeastIn ZigZag model q s zig_zag → LeastIn LeftDeep model q s left_deep
     → (best ≤ narrow) × (narrow ≤ zig_zag) × (zig_zag ≤ left_deep)
 
 -- The connected sets are those that have a least word in the class. A set has at most one.
 abbrev pub ConnectedSetsHaveLeastWordsIn : Type 0
 ConnectedSetsHaveLeastWordsIn =
-    (c : Class) (kind : ℕ) (q : JoinQuery) (s : ℕ) → IsQuery q
-    → (Connected (graph_of q) s ↔ ((w : ℕ) × LeastIn c kind q s w)) × ((v w : ℕ) → LeastIn c kind q s v → LeastIn c kind q s w → v ≡ w)
+    (c : Class) (model : ℕ) (q : JoinQuery) (s : ℕ) → IsQuery q
+    → (Connected (graph_of q) s ↔ ((w : ℕ) × LeastIn c model q s w)) × ((v w : ℕ) → LeastIn c model q s v → LeastIn c model q s w → v ≡ w)
 
 -- The thin pairs of a list of all pairs are the pairs of the graph that have a side of so few relations.
 abbrev pub ThinListsHaveTheThinPairs : Type 0

@@ -15,7 +15,7 @@ pub record IsSide (q : JoinQuery) (s x : ℕ) : Type 0 where
   pub smaller : x < s
 
 -- under the root's operator the plans of its two sides are the plan of s
-pub record IsRootIn (c : Class) (kind : ℕ) (q : JoinQuery) (s : ℕ) (root : Root) : Type 0 where
+pub record IsRootIn (c : Class) (model : ℕ) (q : JoinQuery) (s : ℕ) (root : Root) : Type 0 where
   pub left : IsSide q s root.left
   pub right : IsSide q s root.right
-  pub plan : (x y : JoinTree) → PlanIn c kind q root.left x → PlanIn c kind q root.right y → PlanIn c kind q s (join root.op x y)
+  pub plan : (x y : JoinTree) → PlanIn c model q root.left x → PlanIn c model q root.right y → PlanIn c model q s (join root.op x y)

@@ -39,7 +39,7 @@ fn root_of<M: CostModel>(query: &Query, class: Class, words: &[u64], s: RelSet) 
     requires many { size s ≢ 1 }
     ensures { IsRootIn class M.KIND query.now s result }
 {
-    let _n = query.n();
+    query.recall();
     let word = Word::of_bits(words[s.bits() as usize]);
     let left = word.left();
     Root {

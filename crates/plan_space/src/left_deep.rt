@@ -11,14 +11,14 @@ ghost use Rattle.plan_space.specs.declared.class.Class.TheVariants.{LeftDeep};
 ghost use Rattle.plan_space.specs.LeastWords.{LeastOrEmpty, HasLeastWords, IsLeastOf, JoinsBelow, EndsWith, HasRows};
 
 use card_scaled::CardTable;
-use cost_model::{CostModel, Word};
+use cost_model::{CostModel, LEAF, Word};
 use dpe_base::{EMPTY, Query, ROW_CAP, RelSet, SPAN};
 use join_graph::Graph;
 use std::alloc::{AllocError, Global};
 
 // The word of a tree that costs this much, or `EMPTY`.
 fn word_of(cost: u128, op: u8, left: RelSet) -> u64
-    requires op { op ≤ 3 }
+    requires op { op ≤ LEAF }
     requires left { left < SPAN }
     ensures { result ≡ word cost op left }
 {
@@ -63,7 +63,7 @@ fn with_last<M: CostModel>(
     requires rows { HasRows cards.now }
     ensures { IsLeastOf (EndsWith M.KIND graph.now cards.now.rows words.now s r) result }
 {
-    let _n = graph.n();
+    graph.recall();
     let last = RelSet::single(r);
     let left = s.minus(last);
     let first = words[left.bits() as usize];
@@ -91,7 +91,7 @@ fn with_any_last<M: CostModel>(
     requires rows { HasRows cards.now }
     ensures { IsLeastOf (λ v. (r : ℕ) × Has s r × EndsWith M.KIND graph.now cards.now.rows words.now s r v) result }
 {
-    let _n = graph.n();
+    graph.recall();
     let mut least = EMPTY;
     let mut rest = s;
     'rest: while let Some(r) = rest.least() {
@@ -118,9 +118,9 @@ fn left_word<M: CostModel>(
     requires smaller { (x : ℕ) → x < s → LeastOrEmpty LeftDeep M.KIND query.now x (slice_index words.now x) }
     ensures { LeastOrEmpty LeftDeep M.KIND query.now s result }
 {
-    let _n = query.n();
+    query.recall();
     if s.len() == 1 {
-        word_of(0, 3, s)
+        word_of(0, LEAF, s)
     } else {
         with_any_last(model, graph, cards, words, s)
     }

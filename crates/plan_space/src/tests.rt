@@ -6,7 +6,7 @@ ghost use Rattle.std.specs.Prelude.{◌≡◌, ◌≤◌};
 
 use crate::{Class, Thin, build_class, left_words};
 use card_scaled::CardTable;
-use cost_model::{CostModel, Cout, Ops, Word, best_split};
+use cost_model::{CostModel, Cout, LEAF, Ops, Word, best_split};
 use dpe_base::{EMPTY, Pair, Pred, Query, ROW_CAP, Rel, RelSet, SPAN};
 use join_graph::Graph;
 use join_tree::Tree;
@@ -210,7 +210,7 @@ fn worked<M: CostModel>(
     for r in 0..query.n() {
         let place = 1usize << r;
         if place < words.len() {
-            words[place] = 3 * SPAN + (1u64 << r);
+            words[place] = LEAF as u64 * SPAN + (1u64 << r);
         }
     }
     for p in pairs {

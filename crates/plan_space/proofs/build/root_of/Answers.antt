@@ -13,7 +13,7 @@ bounds-words-bits g c =
 pub returns : goal.returns
 returns g c =
     let word : c.of_bits-word.result ≡ slice_index c.args.words.now c.args.s = c.of_bits-word.ensures ∙ ap (slice_index c.args.words.now) c.bits.ensures in
-    is_root c.args.class g.M.CostModel.KIND c.args.query.now c.args.s (slice_index c.args.words.now c.args.s) _ c.n-n.ensures.valid c.requires.many
+    is_root c.args.class g.M.CostModel.KIND c.args.query.now c.args.s (slice_index c.args.words.now c.args.s) _ c.recall.ensures c.requires.many
     (c.requires.least c.args.s c.requires.connected (λ r h. h))
     (c.op.ensures ∙ ap word_op word) (c.left-left.ensures ∙ ap word_left word)
     (c.minus.ensures ∙ ap (minus c.args.s) (c.left-left.ensures ∙ ap word_left word))

@@ -4,7 +4,7 @@ use Rattle.plan_space.proofs.left_deep.with_any_last.Goals as goal
 
 pub single-requires : goal.single-requires
 single-requires g c =
-    omega (arith, in_graph c.args.graph.now.n c.args.s c.in-Some.r c.requires.known (c.rest.invariant.within c.in-Some.r c.in-Some.ensures.0), c.n-n.ensures.valid.few)
+    omega (arith, in_graph c.args.graph.now.n c.args.s c.in-Some.r c.requires.known (c.rest.invariant.within c.in-Some.r c.in-Some.ensures.0), c.recall.ensures.few)
 
 pub with_last-requires-clause-has : goal.with_last-requires-clause-has
 with_last-requires-clause-has g c κs within = c.rest.invariant.within c.in-Some.r c.in-Some.ensures.0

@@ -7,7 +7,7 @@ use Rattle.plan_space.proofs.left_deep.with_last.Goals as goal
 
 pub single-last-requires : goal.single-last-requires
 single-last-requires g c =
-    omega (arith, in_graph c.args.graph.now.n c.args.s c.args.r c.requires.known c.requires.has, c.n-n.ensures.valid.few)
+    omega (arith, in_graph c.args.graph.now.n c.args.s c.args.r c.requires.known c.requires.has, c.recall.ensures.few)
 
 pub bounds-words-bits : goal.bounds-words-bits
 bounds-words-bits g c =
@@ -43,7 +43,7 @@ rows-last_rows-requires-clause-within g c =
 
 pub join_in_order-requires-clause-set : goal.join_in_order-requires-clause-set
 join_in_order-requires-clause-set g c κs within =
-    within_span c.minus-left.result c.args.graph.now.n (left_within c.args.graph.now.n c.args.s c.single-last.result c.minus-left.result c.requires.known c.minus-left.ensures) c.n-n.ensures.valid.few
+    within_span c.minus-left.result c.args.graph.now.n (left_within c.args.graph.now.n c.args.s c.single-last.result c.minus-left.result c.requires.known c.minus-left.ensures) c.recall.ensures.few
 
 pub join_in_order-requires-clause-left : goal.join_in_order-requires-clause-left
 join_in_order-requires-clause-left g c κs within =

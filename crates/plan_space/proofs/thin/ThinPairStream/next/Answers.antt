@@ -15,5 +15,6 @@ skip-preserved g c =
       left = thin_skipped c.args.self.now.width c.skip.self.width _ _ _ c.in-Some.p c.skip.invariant.left c.skip.invariant.width c.in-Some.ensures.pair (sym c.if-is_thin.false ∙ c.is_thin.ensures);
       width = c.skip.invariant.width;
       total = c.in-Some.ensures.whole ∙ c.skip.invariant.total;
+      forward = omega (arith, c.in-Some.ensures.forward, c.skip.invariant.forward);
       counted = omega (arith, c.in-Some.ensures.counted, c.skip.invariant.counted);
     }
