@@ -1,57 +1,124 @@
-//! What a gate sees of a run with two workers.
+//! What a gate sees of a run.
 ghost use Rattle.std.specs.Prelude.{◌≤◌};
 
-use super::gates::{DrawMeetsFilling, DrawsMeet, Tally};
-use super::queries::{Shape, query_of_ones};
-use super::runs::{solve_by_dpccp, solve_by_dpsize};
-use dpe_base::Pair;
+use super::fixtures::{Meeting, Shape, Tally, query_of_ones, solve_by_dpccp, solve_by_dpsize};
+use crate::OpenGate;
+use dpe_base::{BUFFER_MAX, Pair, Query, WORKERS_MAX};
 use enum_dpsize::DpSize;
 use join_graph::Graph;
 use pair_stream::{Parts, collect_pairs};
-use reorder_buffer::{ROOM_MAX, SIZES};
+use reorder_buffer::SIZES;
 use std::alloc::Global;
 use std::test::Fail;
+use std::thread::Threads;
 
-#[test]
-fn two_workers_draw_at_the_same_time(rt: HostRuntime) -> Result<(), Fail> {
-    let query = query_of_ones(rt.alloc(), Shape::Clique, 10)?;
-    let gate = DrawsMeet::from_ticket(0);
-    let solved = solve_by_dpccp(&rt, rt.alloc(), &query, 4_096, 2, &gate)?;
-    assert_eq!(rt; (solved.pairs, solved.buffers), (28_501, 7));
-    assert!(rt; gate.took_place());
-    Ok(())
+// Whether all workers meet in the first group of a run over a clique of ten, which fills buffers of 1,000 pairs: the group
+// has threads, small as it is.
+fn meets_at_first<R: Threads + Sync>(rt: &R, alloc: Global, workers: u32) -> Result<bool, Fail>
+    requires { (1 ≤ workers) × (workers ≤ WORKERS_MAX) }
+{
+    let query = query_of_ones(alloc, Shape::Clique, 10)?;
+    let gate = Meeting::of_workers(alloc, workers, 0)?;
+    let solved = solve_by_dpccp(rt, alloc, &query, 1_000, workers, &gate)?;
+    Ok(gate.took_place() && (solved.pairs, solved.buffers) == (28_501, 29))
 }
 
 #[test]
-fn a_buffer_is_filled_beside_the_work(rt: HostRuntime) -> Result<(), Fail> {
-    let query = query_of_ones(rt.alloc(), Shape::Clique, 10)?;
-    let gate = DrawMeetsFilling::from_ticket(0, 1);
-    let solved = solve_by_dpccp(&rt, rt.alloc(), &query, 1_000, 2, &gate)?;
-    assert_eq!(rt; (solved.pairs, solved.buffers), (28_501, 29));
-    assert!(rt; gate.took_place());
+fn all_workers_meet_in_the_first_group(rt: HostRuntime) -> Result<(), Fail> {
+    assert!(rt; meets_at_first(&rt, rt.alloc(), 2)?);
+    assert!(rt; meets_at_first(&rt, rt.alloc(), 3)?);
+    assert!(rt; meets_at_first(&rt, rt.alloc(), 4)?);
+    assert!(rt; meets_at_first(&rt, rt.alloc(), WORKERS_MAX)?);
     Ok(())
 }
 
-// Each of ten buffers has one pair, so its one round draws three tickets.
+// Whether a draw of the first buffer meets the filling of the second, and one of a later buffer of one pair the filling of
+// the next: each of ten such buffers has one round, which draws a ticket more than there are workers.
+fn meets_the_filling<R: Threads + Sync>(rt: &R, alloc: Global, workers: u32) -> Result<bool, Fail>
+    requires { (1 ≤ workers) × (workers ≤ WORKERS_MAX) }
+{
+    let clique = query_of_ones(alloc, Shape::Clique, 10)?;
+    let first = Meeting::with_filling(alloc, 0, 1)?;
+    solve_by_dpccp(rt, alloc, &clique, 1_000, workers, &first)?;
+    let chain = query_of_ones(alloc, Shape::Chain, 4)?;
+    let later = Meeting::with_filling(alloc, 2 * (workers as u64 + 1), 3)?;
+    solve_by_dpccp(rt, alloc, &chain, 1, workers, &later)?;
+    Ok(first.took_place() && later.took_place())
+}
+
 #[test]
-fn a_later_small_buffer_is_filled_beside_the_work(rt: HostRuntime) -> Result<(), Fail> {
+fn each_buffer_is_filled_beside_the_work(rt: HostRuntime) -> Result<(), Fail> {
+    assert!(rt; meets_the_filling(&rt, rt.alloc(), 2)?);
+    assert!(rt; meets_the_filling(&rt, rt.alloc(), 3)?);
+    assert!(rt; meets_the_filling(&rt, rt.alloc(), 4)?);
+    assert!(rt; meets_the_filling(&rt, rt.alloc(), WORKERS_MAX)?);
+    Ok(())
+}
+
+// One worker draws the two tickets of buffer k - 1 after buffer k is filled, and before buffer k + 1 is.
+#[test]
+fn one_worker_fills_in_turn(rt: HostRuntime) -> Result<(), Fail> {
     let query = query_of_ones(rt.alloc(), Shape::Chain, 4)?;
-    let gate = DrawMeetsFilling::from_ticket(6, 3);
-    let solved = solve_by_dpccp(&rt, rt.alloc(), &query, 1, 2, &gate)?;
-    assert_eq!(rt; (solved.pairs, solved.buffers), (10, 10));
-    assert!(rt; gate.took_place());
+    let tally = Tally::of(rt.alloc(), 20, 1, 11)?;
+    solve_by_dpccp(&rt, rt.alloc(), &query, 1, 1, &tally)?;
+    assert!(rt; tally.has_each_once());
+    assert_eq!(rt; (tally.draws_before(0), tally.draws_before(1)), (0, 0));
+    assert_eq!(rt; (tally.draws_before(2), tally.draws_before(3)), (2, 4));
+    assert_eq!(rt; tally.draws_before(10), 18);
     Ok(())
 }
 
-// Each worker overdraws once in each of nine rounds.
+// The groups of a buffer that holds fewer than 32 pairs have no threads: worker 0 draws the tickets of all pairs, and each
+// worker one past them in each of the 7 rounds.
 #[test]
-fn each_ticket_is_drawn_once(rt: HostRuntime) -> Result<(), Fail> {
+fn small_groups_run_in_one_thread(rt: HostRuntime) -> Result<(), Fail> {
+    let query = query_of_ones(rt.alloc(), Shape::Chain, 4)?;
+    let tally = Tally::of(rt.alloc(), 31, 3, 4)?;
+    let solved = solve_by_dpccp(&rt, rt.alloc(), &query, 3, 3, &tally)?;
+    assert_eq!(rt; (solved.pairs, solved.buffers, solved.rounds), (10, 4, 7));
+    assert!(rt; tally.has_each_once());
+    assert_eq!(rt;
+        (tally.draws_of(0), tally.draws_of(1), tally.draws_of(2)),
+        (17, 7, 7)
+    );
+    Ok(())
+}
+
+// Whether a run over a clique of ten by buffers of 1,000 pairs names each worker and each of 29 buffers, draws each ticket
+// once, and ends in the words of `row`.
+fn names_all<R: Threads + Sync>(
+    rt: &R,
+    alloc: Global,
+    query: &Query,
+    workers: u32,
+    rounds: u64,
+    row: &[u64],
+) -> Result<bool, Fail>
+    requires { (1 ≤ workers) × (workers ≤ WORKERS_MAX) }
+{
+    let tickets = (workers as u64).wrapping_mul(rounds).wrapping_add(28_501);
+    let tally = Tally::of(alloc, tickets, workers, 29)?;
+    let solved = solve_by_dpccp(rt, alloc, query, 1_000, workers, &tally)?;
+    Ok(
+        solved.rounds == rounds
+            && solved.words.row() == row
+            && tally.has_each_once()
+            && tally.has_all_workers(rounds),
+    )
+}
+
+#[test]
+fn a_gate_sees_each_worker_and_each_buffer(rt: HostRuntime) -> Result<(), Fail> {
     let query = query_of_ones(rt.alloc(), Shape::Clique, 10)?;
-    let gate = Tally::below(rt.alloc(), 28_519)?;
-    let solved = solve_by_dpccp(&rt, rt.alloc(), &query, ROOM_MAX, 2, &gate)?;
-    assert_eq!(rt; (solved.pairs, solved.rounds), (28_501, 9));
-    assert!(rt; gate.has_each_once());
-    assert_eq!(rt; gate.fillings(), 1);
+    let solved = solve_by_dpccp(&rt, rt.alloc(), &query, 1_000, 1, &OpenGate)?;
+    let row = solved.words.row();
+    let rounds = solved.rounds;
+    assert!(rt; names_all(&rt, rt.alloc(), &query, 1, rounds, row)?);
+    assert!(rt; names_all(&rt, rt.alloc(), &query, 2, rounds, row)?);
+    assert!(rt; names_all(&rt, rt.alloc(), &query, 3, rounds, row)?);
+    assert!(rt; names_all(&rt, rt.alloc(), &query, 5, rounds, row)?);
+    assert!(rt; names_all(&rt, rt.alloc(), &query, 63, rounds, row)?);
+    assert!(rt; names_all(&rt, rt.alloc(), &query, WORKERS_MAX, rounds, row)?);
     Ok(())
 }
 
@@ -92,18 +159,31 @@ fn pairs_by_dpsize(alloc: Global, graph: &Graph) -> Result<Vec<Pair>, Fail> {
     Ok(collect_pairs(alloc, &mut stream)?)
 }
 
+// Whether all workers meet in a group of more than 30,000 pairs that isn't the first.
+fn meets_in_a_large_group<R: Threads + Sync>(
+    rt: &R,
+    alloc: Global,
+    query: &Query,
+    list: &[Pair],
+    workers: u32,
+) -> Result<bool, Fail>
+    requires { (1 ≤ workers) × (workers ≤ WORKERS_MAX) }
+{
+    let found = first_ticket_of_a_group(list, BUFFER_MAX as usize, workers as u64, 30_000);
+    let first = found.ok_or("no group of more than 30,000 pairs")?;
+    let gate = Meeting::of_workers(alloc, workers, first)?;
+    let solved = solve_by_dpsize(rt, alloc, query, BUFFER_MAX, workers, &gate)?;
+    Ok(first > 0 && gate.took_place() && solved.pairs == list.len() as u64)
+}
+
+// 78 + 858 + 5,005 + 19,305 pairs of a clique of 13 have unions of up to five relations, and 40,290 of the first buffer six.
 #[test]
-fn two_workers_draw_at_the_same_time_in_a_large_group(rt: HostRuntime) -> Result<(), Fail> {
+fn all_workers_meet_in_a_large_group(rt: HostRuntime) -> Result<(), Fail> {
     let query = query_of_ones(rt.alloc(), Shape::Clique, 13)?;
     let list = pairs_by_dpsize(rt.alloc(), &Graph::of(&query))?;
-    // 78 + 858 + 5,005 + 19,305 pairs have unions of up to five relations, and 40,290 of the first run have six
-    let first = first_ticket_of_a_group(&list, ROOM_MAX as usize, 2, 30_000).ok_or(
-        "no group of more than 30,000 pairs",
-    )?;
-    assert_eq!(rt; first, 25_254);
-    let gate = DrawsMeet::from_ticket(first);
-    let solved = solve_by_dpsize(&rt, rt.alloc(), &query, ROOM_MAX, 2, &gate)?;
-    assert_eq!(rt; solved.pairs, list.len() as u64);
-    assert!(rt; gate.took_place());
+    assert!(rt; meets_in_a_large_group(&rt, rt.alloc(), &query, &list, 2)?);
+    assert!(rt; meets_in_a_large_group(&rt, rt.alloc(), &query, &list, 3)?);
+    assert!(rt; meets_in_a_large_group(&rt, rt.alloc(), &query, &list, 4)?);
+    assert!(rt; meets_in_a_large_group(&rt, rt.alloc(), &query, &list, WORKERS_MAX)?);
     Ok(())
 }

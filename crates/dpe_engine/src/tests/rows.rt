@@ -1,12 +1,9 @@
 //! The words of a run are the same whatever the buffer and the number of workers.
 ghost use Rattle.std.specs.Prelude.{◌≤◌};
 
-use super::CHAIN_OF_FOUR;
-use super::queries::{Shape, query_of_ones};
-use super::runs::solve_by_dpccp;
+use super::fixtures::{CHAIN_OF_FOUR, Shape, query_of_ones, solve_by_dpccp};
 use crate::{OpenGate, Solved};
-use dpe_base::Query;
-use reorder_buffer::ROOM_MAX;
+use dpe_base::{BUFFER_MAX, Query, WORKERS_MAX};
 use std::alloc::{AllocError, Global};
 use std::test::Fail;
 use std::thread::Threads;
@@ -18,8 +15,8 @@ fn open_run<R: Threads + Sync>(
     buffer: u32,
     workers: u32,
 ) -> Result<Solved, AllocError>
-    requires buffer { (1 ≤ buffer) × (buffer ≤ ROOM_MAX) }
-    requires workers { (1 ≤ workers) × (workers ≤ 64) }
+    requires buffer { (1 ≤ buffer) × (buffer ≤ BUFFER_MAX) }
+    requires workers { (1 ≤ workers) × (workers ≤ WORKERS_MAX) }
 {
     solve_by_dpccp(rt, alloc, query, buffer, workers, &OpenGate)
 }
@@ -40,7 +37,7 @@ fn chain_of_four_by_buffers_of_three(rt: HostRuntime) -> Result<(), Fail> {
     Ok(())
 }
 
-// Whether four runs over the query work so many pairs each, and end in the same words. `small` is the buffer of many
+// Whether four runs over the query process so many pairs each, and end in the same words. `small` is the buffer of many
 // workers, who start a thread for each buffer.
 fn is_same_for_all<R: Threads + Sync>(
     rt: &R,
@@ -49,12 +46,12 @@ fn is_same_for_all<R: Threads + Sync>(
     small: u32,
     pairs: u64,
 ) -> Result<bool, AllocError>
-    requires small { (1 ≤ small) × (small ≤ ROOM_MAX) }
+    requires small { (1 ≤ small) × (small ≤ BUFFER_MAX) }
 {
-    let first = open_run(rt, alloc, query, ROOM_MAX, 1)?;
-    let second = open_run(rt, alloc, query, ROOM_MAX, 64)?;
+    let first = open_run(rt, alloc, query, BUFFER_MAX, 1)?;
+    let second = open_run(rt, alloc, query, BUFFER_MAX, WORKERS_MAX)?;
     let third = open_run(rt, alloc, query, 1, 1)?;
-    let fourth = open_run(rt, alloc, query, small, 64)?;
+    let fourth = open_run(rt, alloc, query, small, WORKERS_MAX)?;
     'runs: for solved in [&first, &second, &third, &fourth] {
         if solved.pairs != pairs || solved.words.row() != first.words.row() {
             return Ok(false);
