@@ -5,22 +5,21 @@ use Rattle.serde_json.specs.Data.{Data}
 use Rattle.serde_json.specs.View.{view, items_of}
 use Rattle.serde_json.specs.Written.{has_float, members_have_float, items_have_float}
 use Rattle.serde_json.specs.declared.value.Value.{Value}
-use Rattle.dpe_base.specs.Queries.{JoinQuery}
 use Rattle.query_json.specs.declared.refusal.QueryRefusal.{QueryRefusal}
-use Rattle.join_tree.specs.Trees.{JoinTree, leaf, join}
 use Rattle.plan_report.specs.declared.entry.Stats.{Stats}
-use Rattle.plan_report.specs.Json.{plan_data, stats_member, accepted_data, refused_data, report_data, values_of, is_plain, are_plain}
+use Rattle.plan_report.specs.Measures.{MeasuredTree, scan_node, join_node}
+use Rattle.plan_report.specs.Json.{tree_data, stats_member, accepted_data, refused_data, report_data, values_of, is_plain, are_plain}
 
-plan_plain : (kind : ℕ) (q : JoinQuery) (aliases : List (List ℕ)) (t : JoinTree) → has_float (plan_data kind q aliases t) ≡ false
-plan_plain kind q aliases (leaf r) = refl
-plan_plain kind q aliases (join op left right) = rw (plan_plain kind q aliases left, plan_plain kind q aliases right) refl
+tree_plain : (kind : ℕ) (aliases : List (List ℕ)) (m : MeasuredTree) → has_float (tree_data kind aliases m) ≡ false
+tree_plain kind aliases (scan_node r numbers) = refl
+tree_plain kind aliases (join_node op numbers left right) = rw (tree_plain kind aliases left, tree_plain kind aliases right) refl
 
 stats_plain : (s : Option Stats) → members_have_float (stats_member s) ≡ false
 stats_plain (Some s) = refl
 stats_plain None = refl
 
-pub planned_plain : (v plan : Value) (name : List ℕ) (cost rows pairs kind : ℕ) (q : JoinQuery) (aliases : List (List ℕ)) (t : JoinTree) (stats : Option Stats) → view v ≡ accepted_data name cost rows pairs (view plan) (stats_member stats) → view plan ≡ plan_data kind q aliases t → is_plain v ≡ true
-planned_plain v plan name cost rows pairs kind q aliases t stats is has = rw (is, has, plan_plain kind q aliases t, stats_plain stats) refl
+pub planned_plain : (v plan : Value) (name : List ℕ) (cost rows pairs kind : ℕ) (aliases : List (List ℕ)) (m : MeasuredTree) (stats : Option Stats) → view v ≡ accepted_data name cost rows pairs (view plan) (stats_member stats) → view plan ≡ tree_data kind aliases m → is_plain v ≡ true
+planned_plain v plan name cost rows pairs kind aliases m stats is has = rw (is, has, tree_plain kind aliases m, stats_plain stats) refl
 
 pub refused_plain : (v : Value) (name : List ℕ) (why : QueryRefusal) → view v ≡ refused_data name why → is_plain v ≡ true
 refused_plain v name why is = rw is refl

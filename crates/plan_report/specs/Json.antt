@@ -6,13 +6,14 @@ use Rattle.serde_json.specs.View.{view, items_of}
 use Rattle.serde_json.specs.Written.{compact_text, has_float}
 use Rattle.serde_json.specs.declared.value.Value.{Value}
 use Rattle.dpe_base.specs.Queries.{JoinQuery, relations}
-use Rattle.dpe_base.specs.Sets.{single, full}
+use Rattle.dpe_base.specs.Sets.{full}
 use Rattle.query_json.specs.declared.refusal.QueryRefusal.{QueryRefusal}
 use Rattle.query_json.specs.Texts.{refusal_code, refusal_text}
 use Rattle.card_scaled.specs.Cards.{rows}
-use Rattle.join_tree.specs.Trees.{JoinTree, leaf, join, set_of, cost}
+use Rattle.join_tree.specs.Trees.{JoinTree, cost}
 use Rattle.plan_report.specs.declared.entry.Stats.{Stats}
 use Rattle.plan_report.specs.Texts.{newline}
+use Rattle.plan_report.specs.Measures.{MeasuredTree, scan_node, join_node, measured}
 use Rattle.plan_report.specs.Names.{operator_name, enumerator_name}
 use Rattle.plan_report.specs.Entries.{PlannedQuery, ReportEntry, planned, refused}
 
@@ -28,10 +29,14 @@ join_data operator rows cost left right =
     object (member (codes "cost") (whole cost) (member (codes "left") left (member (codes "op") (string operator)
     (member (codes "right") right (member (codes "rows") (whole rows) no_members)))))
 
+-- nested as the tree is
+abbrev pub tree_data : ℕ → List (List ℕ) → MeasuredTree → Data
+tree_data kind aliases (scan_node r numbers) = scan_data (slice_index_or aliases r []) numbers.rows
+tree_data kind aliases (join_node op numbers left right) =
+    join_data (operator_name kind op) numbers.rows numbers.cost (tree_data kind aliases left) (tree_data kind aliases right)
+
 abbrev pub plan_data : ℕ → JoinQuery → List (List ℕ) → JoinTree → Data
-plan_data kind q aliases (leaf r) = scan_data (slice_index_or aliases r []) (rows q (single r))
-plan_data kind q aliases (join op left right) =
-    join_data (operator_name kind op) (rows q (set_of (join op left right))) (cost kind q (join op left right)) (plan_data kind q aliases left) (plan_data kind q aliases right)
+plan_data kind q aliases t = tree_data kind aliases (measured kind q t)
 
 abbrev pub stats_data : Stats → Data
 stats_data s =

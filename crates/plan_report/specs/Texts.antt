@@ -1,12 +1,13 @@
 -- The text of an entry: a line for the query, one for the numbers, and one for each node of the tree.
 use Rattle.std.specs.Prelude.{ℕ, zero, suc, ◌+◌, max, List, [], ◌∷◌, ◌++◌, Option, Some, None, codes, decimal, slice_index_or}
 use Rattle.dpe_base.specs.Queries.{JoinQuery, relations}
-use Rattle.dpe_base.specs.Sets.{single, full}
+use Rattle.dpe_base.specs.Sets.{full}
 use Rattle.query_json.specs.declared.refusal.QueryRefusal.{QueryRefusal}
 use Rattle.query_json.specs.Texts.{refusal_code, refusal_text}
 use Rattle.card_scaled.specs.Cards.{rows}
-use Rattle.join_tree.specs.Trees.{JoinTree, leaf, join, set_of, cost}
+use Rattle.join_tree.specs.Trees.{JoinTree, leaf, join, cost}
 use Rattle.plan_report.specs.declared.entry.Stats.{Stats}
+use Rattle.plan_report.specs.Measures.{MeasuredTree, scan_node, join_node, measured}
 use Rattle.plan_report.specs.Names.{operator_name, enumerator_name}
 use Rattle.plan_report.specs.Entries.{PlannedQuery, ReportEntry, planned, refused}
 
@@ -37,12 +38,14 @@ stats_line s =
     ++ (codes " rounds " ++ (decimal s.rounds ++ (codes " probes " ++ (decimal s.probes ++ newline)))))))))
 
 -- each node on a line of its own, before its sides, the left one first
-abbrev pub plan_text : ℕ → JoinQuery → List (List ℕ) → ℕ → JoinTree → List ℕ
-plan_text kind q aliases depth (leaf r) = indent depth ++ scan_line (slice_index_or aliases r []) (rows q (single r))
-plan_text kind q aliases depth (join op left right) =
+abbrev pub tree_text : ℕ → List (List ℕ) → ℕ → MeasuredTree → List ℕ
+tree_text kind aliases depth (scan_node r numbers) = indent depth ++ scan_line (slice_index_or aliases r []) numbers.rows
+tree_text kind aliases depth (join_node op numbers left right) =
     indent depth
-    ++ (join_line (operator_name kind op) (rows q (set_of (join op left right))) (cost kind q (join op left right))
-    ++ (plan_text kind q aliases (suc depth) left ++ plan_text kind q aliases (suc depth) right))
+    ++ (join_line (operator_name kind op) numbers.rows numbers.cost ++ (tree_text kind aliases (suc depth) left ++ tree_text kind aliases (suc depth) right))
+
+abbrev pub plan_text : ℕ → JoinQuery → List (List ℕ) → ℕ → JoinTree → List ℕ
+plan_text kind q aliases depth t = tree_text kind aliases depth (measured kind q t)
 
 abbrev pub stats_text : Option Stats → List ℕ
 stats_text (Some s) = stats_line s

@@ -1,21 +1,17 @@
 //! The JSON of an entry, and of the whole report.
-ghost use Rattle.std.specs.Prelude.{◌≡◌, ◌++◌, length, IfOk, OnOk, false};
+ghost use Rattle.std.specs.Prelude.{◌≡◌, ◌++◌, length, IfOk, false};
 ghost use Rattle.serde_json.specs.View.{view};
 ghost use Rattle.serde_json.specs.Written.{compact_text, has_float};
-ghost use Rattle.dpe_base.specs.Queries.{relations};
-ghost use Rattle.join_graph.specs.Graphs.{graph_of};
-ghost use Rattle.join_tree.specs.Trees.{Legal};
-ghost use Rattle.join_tree.specs.TreeOf.{tree_of};
-ghost use Rattle.plan_report.specs.Json.{accepted_data, scan_data, join_data, stats_data, stats_member, plan_data, refused_data, report_data, values_of};
-ghost use Rattle.plan_report.specs.Measures.{numbers_of, EndsIn};
+ghost use Rattle.join_tree.specs.Trees.{LeavesBelow};
+ghost use Rattle.plan_report.specs.Json.{accepted_data, scan_data, join_data, stats_data, stats_member, tree_data, refused_data, report_data, values_of};
+ghost use Rattle.plan_report.specs.Measures.{measured_of, shape};
 ghost use Rattle.plan_report.specs.Texts.{newline};
 
 use crate::entry::Stats;
+use crate::measured::Measured;
 use crate::names::{enumerator_name, operator_name};
-use crate::numbers::{Numbers, next_numbers};
 use cost_model::CostModel;
-use dpe_base::{Name, Query};
-use join_tree::Tree;
+use dpe_base::Name;
 use query_json::{QueryRefusal, write_refusal};
 use serde_json::{Value, json};
 use std::alloc::{AllocError, Global};
@@ -39,27 +35,29 @@ fn join_value(
     json!(in alloc; {"cost": cost, "left": left, "op": operator, "right": right, "rows": rows})
 }
 
-/// A tree as nested objects. Takes the numbers of its nodes from the end of `numbers`.
+/// A tree as nested objects.
 pub fn plan_value<M: CostModel>(
     alloc: Global,
     aliases: &[Name],
-    query: &Query,
-    numbers: &mut Vec<Numbers>,
-    tree: &Tree,
+    tree: &Measured,
 ) -> Result<Value, AllocError>
-    requires named { length aliases.now ≡ relations query.now }
-    requires legal { Legal M.KIND (graph_of query.now) (tree_of tree.now) }
-    requires numbers { EndsIn (numbers_of M.KIND query.now (tree_of tree.now)) numbers.old.items }
-    ensures value { IfOk result (λ v. view v ≡ plan_data M.KIND query.now aliases.now (tree_of tree.now)) }
-    ensures rest { OnOk result (numbers.old.items ≡ numbers.new.items ++ numbers_of M.KIND query.now (tree_of tree.now)) }
+    requires { LeavesBelow (length aliases.now) (shape (measured_of tree.now)) }
+    ensures { IfOk result (λ v. view v ≡ tree_data M.KIND aliases.now (measured_of tree.now)) }
 {
-    let Numbers { rows, cost, .. } = next_numbers(numbers);
     match tree {
-        Tree::Leaf(r) => scan_value(alloc, aliases[*r as usize].text(), rows),
-        Tree::Join { op, left, right } => {
-            let left = plan_value::<M>(alloc, aliases, query, numbers, left)?;
-            let right = plan_value::<M>(alloc, aliases, query, numbers, right)?;
-            join_value(alloc, operator_name(M::KIND, *op), rows, cost, left, right)
+        Measured::Scan { relation, numbers } => {
+            scan_value(alloc, aliases[*relation as usize].text(), numbers.rows)
+        }
+        Measured::Join {
+            op,
+            numbers,
+            left,
+            right,
+        } => {
+            let left = plan_value::<M>(alloc, aliases, left)?;
+            let right = plan_value::<M>(alloc, aliases, right)?;
+            let operator = operator_name(M::KIND, *op);
+            join_value(alloc, operator, numbers.rows, numbers.cost, left, right)
         }
     }
 }

@@ -1,16 +1,21 @@
-//! The plan of a query from the best words of its connected sets, and the report of several queries as
-//! text or as JSON.
+//! The report of several queries, as lines of text or as one line of JSON.
+//!
+//! Begin at [`Report`]: an entry is added by `planned` or by `refused`, and `text` or `json` gives the bytes. A tree is first
+//! measured (`measured.rt`): each node gets its set, its rows and its cost. The two printers (`text.rt`, `json.rt`) borrow the
+//! measured tree. What the bytes are stands in `specs/Texts` and `specs/Json`, entry by entry, and `specs/Reports` says what a
+//! report of a list of entries is. An entry is added whole or not at all: where memory runs out, the report stays as it was.
 #![tactic(auto)]
 
 mod entry;
 mod json;
+mod measured;
 mod names;
-mod numbers;
 mod report;
 mod text;
 
 pub use entry::Stats;
 pub use join_tree::build;
+pub use names::enumerator_name;
 pub use report::{Format, Report};
 
 #[cfg(test)]

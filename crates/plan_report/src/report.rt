@@ -4,7 +4,7 @@ ghost use Rattle.plan_report.specs.Json.{are_plain};
 
 use crate::entry::Stats;
 use crate::json::{line_of, plan_value, planned_value, refused_value, report_value};
-use crate::numbers::{measure, rows_of_all};
+use crate::measured::{measure, rows_of_all};
 use crate::text::{write_head, write_plan, write_refused, write_stats};
 use cost_model::CostModel;
 use dpe_base::{COST_LIMIT, Name, Query};
@@ -101,20 +101,19 @@ impl Report {
         }))) }
         ensures err { OnErr result (Keeps self.old self.new) }
     {
-        let n = query.n();
-        let mut numbers = Vec::with_capacity(self.alloc, 2 * n as usize)?;
-        let whole = measure(query, model, tree, &mut numbers)?;
+        let tree = measure(self.alloc, query, model, tree)?;
+        let whole = tree.numbers();
         let (cost, rows) = (whole.cost, rows_of_all(query, whole));
         match self.format {
             Format::Text => {
                 let mut entry = String::new(self.alloc);
                 write_head(&mut entry, name, cost, rows, pairs)?;
-                write_plan::<M>(&mut entry, aliases, query, &mut numbers, 0, tree)?;
+                write_plan::<M>(&mut entry, aliases, 0, &tree)?;
                 write_stats(&mut entry, stats)?;
                 self.push_text(entry.as_str())
             }
             Format::Json => {
-                let plan = plan_value::<M>(self.alloc, aliases, query, &mut numbers, tree)?;
+                let plan = plan_value::<M>(self.alloc, aliases, &tree)?;
                 let entry = planned_value(self.alloc, name, cost, rows, pairs, plan, stats)?;
                 self.push_value(entry)
             }

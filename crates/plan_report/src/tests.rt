@@ -3,7 +3,7 @@ ghost use Rattle.plan_report.specs.Reports.{format_of};
 
 use super::*;
 use cost_model::{CostModel, Cout, Ops};
-use dpe_base::{Kind, Name, Pred, Query, Rel, RelSet};
+use dpe_base::{EMPTY, Kind, Name, Pred, Query, Rel, RelSet, SPAN};
 use join_graph::Graph;
 use join_tree::Tree;
 use query_json::QueryRefusal;
@@ -170,7 +170,13 @@ fn the_plan_of_one_relation_is_its_scan(rt: HostRuntime) -> Result<(), Fail> {
     let alloc = rt.alloc();
     let query = chain(alloc, &[100], 1)?;
     assert_eq!(rt; query.n(), 1);
-    let tree = build(alloc, &query, &Ops, &[u64::MAX, 196609], RelSet::single(0))?;
+    let tree = build(
+        alloc,
+        &query,
+        &Ops,
+        &[EMPTY, 3 * SPAN + 1],
+        RelSet::single(0),
+    )?;
     let mut report = Report::new(alloc, Format::Text);
     let stats = Stats {
         kind: Kind::DpCcp,

@@ -1,18 +1,14 @@
 //! The lines of an entry.
 ghost use Rattle.std.specs.Prelude.{◌≡◌, ◌+◌, ◌^◌, ◌<◌, ◌++◌, length, OnOk, string_bytes};
-ghost use Rattle.dpe_base.specs.Queries.{relations};
-ghost use Rattle.join_graph.specs.Graphs.{graph_of};
-ghost use Rattle.join_tree.specs.Trees.{Legal};
-ghost use Rattle.join_tree.specs.TreeOf.{tree_of};
-ghost use Rattle.plan_report.specs.Measures.{numbers_of, EndsIn};
-ghost use Rattle.plan_report.specs.Texts.{indent, query_line, numbers_line, scan_line, join_line, stats_text, plan_text, refused_text, height};
+ghost use Rattle.join_tree.specs.Trees.{LeavesBelow};
+ghost use Rattle.plan_report.specs.Measures.{measured_of, shape};
+ghost use Rattle.plan_report.specs.Texts.{indent, query_line, numbers_line, scan_line, join_line, stats_text, tree_text, refused_text, height};
 
 use crate::entry::Stats;
+use crate::measured::Measured;
 use crate::names::{enumerator_name, operator_name};
-use crate::numbers::{Numbers, next_numbers};
 use cost_model::CostModel;
-use dpe_base::{Name, Query};
-use join_tree::Tree;
+use dpe_base::Name;
 use query_json::{QueryRefusal, write_refusal};
 use std::alloc::AllocError;
 
@@ -52,31 +48,31 @@ fn write_join(out: &mut String, operator: &str, rows: u64, cost: u64) -> Result<
     writeln!(out, "{operator} rows {rows} cost {cost}")
 }
 
-/// Appends the lines of a tree, with the root at this depth. Takes the numbers of its nodes from the end of
-/// `numbers`.
+/// Appends the lines of a tree, with the root at this depth.
 pub fn write_plan<M: CostModel>(
     out: &mut String,
     aliases: &[Name],
-    query: &Query,
-    numbers: &mut Vec<Numbers>,
     depth: u32,
-    tree: &Tree,
+    tree: &Measured,
 ) -> Result<(), AllocError>
-    requires named { length aliases.now ≡ relations query.now }
-    requires legal { Legal M.KIND (graph_of query.now) (tree_of tree.now) }
-    requires numbers { EndsIn (numbers_of M.KIND query.now (tree_of tree.now)) numbers.old.items }
-    requires fits { depth + height (tree_of tree.now) < 2 ^ 32 }
-    ensures text { OnOk result (string_bytes out.new ≡ string_bytes out.old ++ plan_text M.KIND query.now aliases.now depth (tree_of tree.now)) }
-    ensures rest { OnOk result (numbers.old.items ≡ numbers.new.items ++ numbers_of M.KIND query.now (tree_of tree.now)) }
+    requires named { LeavesBelow (length aliases.now) (shape (measured_of tree.now)) }
+    requires fits { depth + height (shape (measured_of tree.now)) < 2 ^ 32 }
+    ensures { OnOk result (string_bytes out.new ≡ string_bytes out.old ++ tree_text M.KIND aliases.now depth (measured_of tree.now)) }
 {
     write_indent(out, depth)?;
-    let Numbers { rows, cost, .. } = next_numbers(numbers);
     match tree {
-        Tree::Leaf(r) => write_scan(out, aliases[*r as usize].text(), rows),
-        Tree::Join { op, left, right } => {
-            write_join(out, operator_name(M::KIND, *op), rows, cost)?;
-            write_plan::<M>(out, aliases, query, numbers, depth + 1, left)?;
-            write_plan::<M>(out, aliases, query, numbers, depth + 1, right)
+        Measured::Scan { relation, numbers } => {
+            write_scan(out, aliases[*relation as usize].text(), numbers.rows)
+        }
+        Measured::Join {
+            op,
+            numbers,
+            left,
+            right,
+        } => {
+            write_join(out, operator_name(M::KIND, *op), numbers.rows, numbers.cost)?;
+            write_plan::<M>(out, aliases, depth + 1, left)?;
+            write_plan::<M>(out, aliases, depth + 1, right)
         }
     }
 }

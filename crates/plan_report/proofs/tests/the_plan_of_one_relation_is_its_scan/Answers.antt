@@ -1,4 +1,5 @@
-use Rattle.std.proofs.Common.{◌≡◌, ◌≢◌, ℕ, ◌∷◌, [], ◌<◌, ◌∙◌, arith, sym, subst, slice_index}
+use Rattle.std.proofs.Common.{◌≡◌, ◌≢◌, ℕ, ◌∷◌, [], ◌<◌, ◌∙◌, ◌*◌, ◌+◌, arith, sym, subst, slice_index}
+use Rattle.dpe_base.specs.declared.TheConstants.{EMPTY, SPAN}
 use Rattle.dpe_base.specs.Queries.{JoinQuery, relations}
 use Rattle.dpe_base.specs.Sets.{Has, Within, single}
 use Rattle.dpe_base.proofs.SetLaws.{sets, same_set}
@@ -16,10 +17,10 @@ one_set x s e some w =
     same_set _ _ (λ r. grind (arith, sets, w r, w k.0 k.1, k.1))
 
 -- the words of a query of one relation
-leaf_words : (q : JoinQuery) (s : ℕ) → s ≡ single 0 → 0 < relations q → HasBestWords 0 q (18446744073709551615 ∷ 196609 ∷ []) s
+leaf_words : (q : JoinQuery) (s : ℕ) → s ≡ single 0 → 0 < relations q → HasBestWords 0 q (EMPTY ∷ (3 * SPAN + 1) ∷ []) s
 unfolding single
 leaf_words q s e some x cx w =
-    subst (λ u. Best 0 q u (slice_index (18446744073709551615 ∷ 196609 ∷ []) u)) (sym e ∙ one_set x s e cx.some w) (best_leaf 0 q 0 some)
+    subst (λ u. Best 0 q u (slice_index (EMPTY ∷ (3 * SPAN + 1) ∷ []) u)) (sym e ∙ one_set x s e cx.some w) (best_leaf 0 q 0 some)
 
 pub build-requires-clause-connected : goal.build-requires-clause-connected
 build-requires-clause-connected g c κs =

@@ -2,7 +2,7 @@ use Rattle.std.proofs.Common.{arith}
 use Rattle.dpe_base.proofs.SetLaws.{sets}
 use Rattle.dpe_base.proofs.SizeLaws.{union_some}
 use Rattle.card_scaled.proofs.CardLaws.{rows_bounds}
-use Rattle.plan_report.proofs.numbers.of_join.Goals as goal
+use Rattle.plan_report.proofs.measured.of_join.Goals as goal
 
 pub rows_once-rows-requires-clause-some : goal.rows_once-rows-requires-clause-some
 rows_once-rows-requires-clause-some g c = λ e. union_some c.args.left.set c.args.right.set c.requires.left.some (omega arith)
