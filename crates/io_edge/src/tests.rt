@@ -61,6 +61,18 @@ fn a_sink_takes_all_or_a_proper_prefix(rt: HostRuntime) -> Result<(), Fail> {
     Ok(())
 }
 
+const LONG: [u8; 100_000] = [b'x'; 100_000];
+
+#[test]
+fn each_call_offers_all_that_is_left(rt: HostRuntime) -> Result<(), Fail> {
+    let alloc = rt.alloc();
+    // The second call fails, so the first one must take the whole text.
+    let mut sink = MemSink::new(alloc, LONG.len(), LONG.len(), [1].to_vec(alloc)?)?;
+    assert_eq!(rt; write_all(&mut sink, &LONG), Ok(()));
+    assert_eq!(rt; sink.written().len(), LONG.len());
+    Ok(())
+}
+
 #[test]
 fn the_streams_of_std_are_a_source_and_a_sink(rt: HostRuntime) -> Result<(), Fail> {
     let mut source = StdSource::over(TEXT);
@@ -82,6 +94,40 @@ fn a_writer_of_std_gets_the_bytes_until_it_is_full(rt: HostRuntime) -> Result<()
     let mut sink = StdSink::over(room.as_mut_slice());
     assert_eq!(rt; write_all(&mut sink, TEXT), Err(WriteFault));
     assert_eq!(rt; &room, b"abcd");
+    Ok(())
+}
+
+// A stream that refuses a write before the one before is flushed.
+#[derive(Drop)]
+struct Unflushed {
+    waits: bool,
+    most: usize,
+}
+
+impl Write for Unflushed {
+    fn write(&mut self, buf: &[u8]) -> std::io::Result<usize> {
+        if self.waits {
+            return Err(ErrorKind::Other.into());
+        }
+        self.waits = true;
+        Ok(buf.len().min(self.most))
+    }
+
+    fn flush(&mut self) -> std::io::Result<()> {
+        self.waits = false;
+        Ok(())
+    }
+}
+
+#[test]
+fn each_write_is_flushed(rt: HostRuntime) -> Result<(), Fail> {
+    for most in [1, 6, 7, 4096, LONG.len()] {
+        let mut stream = Unflushed { waits: false, most };
+        let mut sink = StdSink::over(&mut stream);
+        assert_eq!(rt; write_all(&mut sink, TEXT), Ok(()), "at most {most} bytes");
+        assert_eq!(rt; write_all(&mut sink, &LONG), Ok(()), "at most {most} bytes");
+        assert!(rt; !stream.waits, "at most {most} bytes");
+    }
     Ok(())
 }
 
