@@ -80,7 +80,7 @@ pub record AreInRange (s : Settings) : Type 0 where
   pub buffer : (1 ≤ s.buffer) × (s.buffer ≤ 65536)
   pub workers : (1 ≤ s.workers) × (s.workers ≤ 64)
 
--- the answer, seen by view, is what the words say, or Usage where they say nothing; want of memory is free
+-- the answer, seen by view, is what the words say, or Usage where they say nothing; running out of memory may be reported at any point
 abbrev pub IsSaidBy : {X Y : Type 0} → (X → Y) → Result X WordFault → Option Y → Type 0
 IsSaidBy view (Ok x) said = said ≡ Some (view x)
 IsSaidBy view (Err Usage) said = said ≡ None

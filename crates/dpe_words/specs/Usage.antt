@@ -1,4 +1,4 @@
--- The line that is written where the words are no command line.
+-- The line that is written when the arguments are invalid.
 use Rattle.std.specs.Prelude.{ℕ, List, ◌++◌, codes}
 use Rattle.plan_report.specs.Texts.{newline}
 

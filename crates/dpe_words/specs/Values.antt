@@ -11,6 +11,7 @@ use Rattle.dpe_base.specs.declared.kind.Kind.{Kind}
 use Rattle.dpe_base.specs.declared.kind.Kind.TheVariants.{DpCcp, DpSub, DpSize, DpSva}
 use Rattle.dpe_words.specs.declared.choices.Mode.{Mode}
 use Rattle.dpe_words.specs.declared.choices.Mode.TheVariants.{Plan, Sample}
+use Rattle.plan_report.specs.Names.{enumerator_name}
 use Rattle.plan_report.specs.declared.report.Format.{Format}
 use Rattle.plan_report.specs.declared.report.Format.TheVariants as format
 
@@ -24,10 +25,10 @@ modes =
 
 abbrev pub enumerators : List (Text × Kind)
 enumerators =
-    (codes "dpccp", DpCcp)
-    ∷ (codes "dpsub", DpSub)
-    ∷ (codes "dpsize", DpSize)
-    ∷ (codes "dpsva", DpSva)
+    (enumerator_name DpCcp, DpCcp)
+    ∷ (enumerator_name DpSub, DpSub)
+    ∷ (enumerator_name DpSize, DpSize)
+    ∷ (enumerator_name DpSva, DpSva)
     ∷ []
 
 abbrev pub models : List (Text × ModelKind)

@@ -1,3 +1,4 @@
+//! The settings of the program, and the choices that they are made of.
 ghost use Rattle.std.specs.Prelude.{◌≡◌};
 ghost use Rattle.dpe_words.specs.declared.choices.WordFault.TheVariants.{NoMemory};
 
@@ -6,8 +7,8 @@ use dpe_base::Kind;
 use plan_report::Format;
 use std::alloc::{AllocError, AllocFailed, Global};
 
-/// What the program is asked to do. The modes after `Sample` aren't built yet: no word names them, so that `--mode certify`
-/// is no command line.
+/// What the program is asked to do. The modes after `Sample` aren't built yet: no argument names them, so that
+/// `--mode certify` is invalid.
 #[derive(Clone, Copy, Debug, PartialEq, Eq)]
 pub enum Mode {
     /// A report of the workload that is read.
@@ -51,10 +52,10 @@ pub struct Settings {
     pub number: u64,
 }
 
-/// Why a list of words gives no settings.
+/// Why a list of arguments gives no settings.
 #[derive(Clone, Copy, Debug, PartialEq, Eq)]
 pub enum WordFault {
-    /// The words are no command line.
+    /// The arguments are invalid.
     Usage = 1,
     /// Memory ran out.
     NoMemory = 2,

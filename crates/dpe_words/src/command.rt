@@ -1,3 +1,4 @@
+//! The command as `clap` knows it.
 ghost use Rattle.std.specs.Prelude.{◌≡◌, IfOk};
 ghost use Rattle.clap.specs.Words.{app_of};
 ghost use Rattle.dpe_words.specs.Command.{command, with_option};
@@ -17,7 +18,7 @@ fn with_option<'a>(
     command.arg(arg)
 }
 
-/// The command with its eight options. It has no help flag: an unknown word gets the usage line.
+/// The command with its eight options. It has no help flag: an unknown argument gets the usage line.
 pub fn dpe_command<'a>(alloc: Global) -> Result<Command<'a>, AllocError>
     ensures { IfOk result (λ c. app_of c ≡ command) }
 {

@@ -1,5 +1,8 @@
-//! The command line: its words, read by `clap` as one command with eight options, and the settings
-//! that they ask for.
+//! The command line: its arguments, read by `clap` as one command with eight options, and the settings that they ask for.
+//!
+//! Begin at [`settings`], which goes from the arguments to [`Settings`] in three steps: `clap` checks them against the command
+//! (`command.rt`) and gives each option's text; each text is looked up in its option's table or read as a number
+//! (`values.rt`); a missing one has its default (`line.rt`). `specs/Line` says the same in a dozen lines.
 #![tactic(auto)]
 
 mod choices;

@@ -1,3 +1,4 @@
+//! From arguments to settings.
 ghost use Rattle.std.specs.Prelude.{◌≡◌, map, IfOk, IfSome};
 ghost use Rattle.dpe_words.specs.Command.{whole_line};
 ghost use Rattle.dpe_words.specs.Line.{AreInRange, IsSaid, IsSaidBy, given_by, given_in, settings_by, settings_of, texts_of};
@@ -96,10 +97,9 @@ fn settings_in(texts: &Texts) -> Option<Settings>
     })
 }
 
-/// What the words after the program's name ask for. `WordFault::Usage` comes exactly where they are
-/// no command line.
+/// What the arguments after the program's name ask for. Fails with `WordFault::Usage` exactly when they are invalid.
 ///
-/// Fails with `WordFault::NoMemory` where there is no memory.
+/// Fails with `WordFault::NoMemory` when memory runs out, which it may at any point.
 #[tactic(auto, unfolding(crate::specs::Line::settings_of))]
 pub fn settings(alloc: Global, words: &[String]) -> Result<Settings, WordFault>
     ensures told { IsSaid result (settings_of (texts_of words.now)) }

@@ -1,6 +1,6 @@
 use crate::{Mode, Settings, WordFault, settings, usage_line};
 use cost_model::ModelKind;
-use dpe_base::Kind;
+use dpe_base::{BUFFER_MAX, Kind, WORKERS_MAX};
 use plan_report::Format;
 use std::alloc::Global;
 use std::test::Fail;
@@ -145,8 +145,8 @@ fn lines_and_their_settings(rt: HostRuntime) -> Result<(), Fail> {
             Settings {
                 mode: Mode::Plan,
                 enumerator: Kind::DpSva,
-                buffer: 65536,
-                workers: 64,
+                buffer: BUFFER_MAX,
+                workers: WORKERS_MAX,
                 model: ModelKind::Cout,
                 format: Format::Json,
                 stats: true,

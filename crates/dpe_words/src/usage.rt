@@ -1,7 +1,8 @@
+//! The usage line.
 ghost use Rattle.std.specs.Prelude.{◌≡◌};
 ghost use Rattle.dpe_words.specs.Usage.{usage_line};
 
-/// The answer to words that are no command line, with its newline.
+/// The answer to arguments that are invalid, with its newline.
 #[tactic(auto, unfolding(crate::specs::Usage::usage_line))]
 pub fn usage_line() -> &'static str
     ensures { result.now ≡ usage_line }

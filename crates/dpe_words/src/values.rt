@@ -1,3 +1,4 @@
+//! What the value of each option stands for.
 ghost use Rattle.std.specs.Prelude.{◌≡◌, false, option_map};
 ghost use Rattle.std.specs.Char.{is_ascii_digit};
 ghost use Rattle.std.specs.List.{list_all};
@@ -6,7 +7,7 @@ ghost use Rattle.dpe_words.specs.Values.{enumerators, formats, from_to, meaning_
 use crate::choices::Mode;
 use cost_model::ModelKind;
 use dpe_base::Kind;
-use plan_report::Format;
+use plan_report::{Format, enumerator_name};
 
 /// The mode that the text names, `plan` where there is none. One whose layer isn't built has no name.
 pub fn mode_of(text: Option<&str>) -> Option<Mode>
@@ -19,16 +20,31 @@ pub fn mode_of(text: Option<&str>) -> Option<Mode>
     }
 }
 
-/// The enumerator that the text names, `dpccp` where there is none.
+fn enumerator_named(text: &str) -> Option<Kind>
+    ensures { result ≡ meaning_in enumerators text.now }
+{
+    if text == enumerator_name(Kind::DpCcp) {
+        return Some(Kind::DpCcp);
+    }
+    if text == enumerator_name(Kind::DpSub) {
+        return Some(Kind::DpSub);
+    }
+    if text == enumerator_name(Kind::DpSize) {
+        return Some(Kind::DpSize);
+    }
+    if text == enumerator_name(Kind::DpSva) {
+        return Some(Kind::DpSva);
+    }
+    None
+}
+
+/// The enumerator that the text names, as a report does; DPccp where there is no text.
 pub fn enumerator_of(text: Option<&str>) -> Option<Kind>
     ensures { result ≡ value_or Kind.DpCcp (meaning_in enumerators) (option_map (λ t. t.now) text.entry) }
 {
     match text {
-        None | Some("dpccp") => Some(Kind::DpCcp),
-        Some("dpsub") => Some(Kind::DpSub),
-        Some("dpsize") => Some(Kind::DpSize),
-        Some("dpsva") => Some(Kind::DpSva),
-        Some(_) => None,
+        None => Some(Kind::DpCcp),
+        Some(text) => enumerator_named(text),
     }
 }
 
