@@ -3,11 +3,13 @@ pub mod Finds
 pub mod Firsts
 pub mod JsonLaws
 pub mod Keys
+pub mod LeastPlaces
 pub mod Lists
 pub mod NameLaws
 pub mod NumberLaws
 pub mod Passes
 pub mod QueryLaws
+pub mod Repeats
 pub mod ScopeLaws
 pub mod SoundEntries
 pub mod TreeLaws

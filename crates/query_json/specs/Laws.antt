@@ -1,10 +1,20 @@
--- What holds of each query of a file, and what its first unreached relation is in the walks of its join graph.
-use Rattle.std.specs.Prelude.{ℕ, ◌≡◌, ◌↔◌, List, All, None, Some, Ok}
+-- What holds of each query of a file, what its first unreached relation is in the walks of its join graph, which name is the
+-- first that stands twice, and that each pass over a query refuses its least place.
+use Rattle.std.specs.Prelude.{ℕ, ◌≡◌, ◌↔◌, ◌<◌, List, All, None, Some, Ok, Err, Bool, true, false, map, take, slice_get, Result}
+use Rattle.std.specs.List.{list_any}
+use Rattle.std.specs.Str.{bytes_eq}
+use Rattle.query_json.specs.declared.fault.FileFault.TheVariants.{DuplicateTable}
+use Rattle.query_json.specs.declared.file.QueryItem.{QueryItem}
+use Rattle.query_json.specs.declared.file.RelationItem.{RelationItem}
+use Rattle.query_json.specs.declared.file.Table.{Table}
+use Rattle.query_json.specs.declared.refusal.QueryRefusal.{QueryRefusal}
+use Rattle.query_json.specs.declared.refusal.QueryRefusal.TheVariants.{DuplicateAlias}
 use Rattle.dpe_base.specs.Queries.{JoinQuery, IsQuery, relations}
 use Rattle.dpe_base.specs.Sets.{full}
 use Rattle.join_graph.specs.Graphs.{Connected, IsFirstUnreached, graph_of}
 use Rattle.query_json.specs.declared.entry.Entry.{Entry}
-use Rattle.query_json.specs.Entries.{entries_of}
+use Rattle.query_json.specs.Entries.{entries_of, table_names}
+use Rattle.query_json.specs.Queries.{aliases_of, all_of, apart, checked, each_of, ends_of, most_distinct, pred_of, rel_of, table_of}
 use Rattle.query_json.specs.Sound.{IsEntrySound}
 use Rattle.query_json.specs.Unreached.{first_unreached}
 
@@ -17,3 +27,40 @@ FirstUnreachedByWalks =
 -- each accepted entry of a file is a connected query within the limits, with one alias for each of its relations
 abbrev pub AcceptedEntriesAreSound : Type 0
 AcceptedEntriesAreSound = (bytes : List ℕ) (entries : List Entry) → entries_of bytes ≡ Ok entries → All IsEntrySound entries
+
+-- a name is one of these
+abbrev pub is_among : List ℕ → List (List ℕ) → Bool
+is_among name names = list_any (bytes_eq name) names
+
+-- at place k stands a name that an earlier place has too, and at no place before k does one
+pub record IsFirstRepeat (names : List (List ℕ)) (name : List ℕ) (k : ℕ) : Type 0 where
+  pub here : slice_get names k ≡ Some name
+  pub again : is_among name (take k names) ≡ true
+  pub first : (i : ℕ) (n : List ℕ) → i < k → slice_get names i ≡ Some n → is_among n (take i names) ≡ false
+
+-- a table is named as the duplicate exactly when its place is the least whose name an earlier table has
+abbrev pub DuplicateTablesByPlace : Type 0
+DuplicateTablesByPlace =
+    (tables : List Table) (name : List ℕ) → (table_names tables ≡ Err (DuplicateTable name)) ↔ ((k : ℕ) × IsFirstRepeat (map (λ t. t.name) tables) name k)
+
+-- the same of the aliases of a query
+abbrev pub DuplicateAliasesByPlace : Type 0
+DuplicateAliasesByPlace =
+    (relations : List RelationItem) (name : List ℕ) → (aliases_of relations ≡ Err (DuplicateAlias name)) ↔ ((k : ℕ) × IsFirstRepeat (map (λ r. r.alias) relations) name k)
+
+-- the member at place k is refused, and none before it
+pub record IsFirstRefused {A B : Type 0} (f : ℕ → A → Result B QueryRefusal) (xs : List A) (why : QueryRefusal) (k : ℕ) : Type 0 where
+  pub refused : (x : A) × (slice_get xs k ≡ Some x) × (f k x ≡ Err why)
+  pub first : (i : ℕ) (x : A) → i < k → slice_get xs i ≡ Some x → (y : B) × (f i x ≡ Ok y)
+
+-- each pass over the relations or the joins of a query refuses exactly what its least refused member is refused for
+pub record RefusesTheLeastPlace (tables : List Table) (q : QueryItem) (why : QueryRefusal) : Type 0 where
+  pub known_tables : (each_of (table_of tables) q.relations ≡ Err why) ↔ ((k : ℕ) × IsFirstRefused (λ at. table_of tables) q.relations why k)
+  pub aliases : (each_of (ends_of q.relations) q.joins ≡ Err why) ↔ ((k : ℕ) × IsFirstRefused (λ at. ends_of q.relations) q.joins why k)
+  pub columns : (each_of (most_distinct tables q.relations) q.joins ≡ Err why) ↔ ((k : ℕ) × IsFirstRefused (λ at. most_distinct tables q.relations) q.joins why k)
+  pub two_ends : (checked apart q.joins ≡ Err why) ↔ ((k : ℕ) × IsFirstRefused (λ at. apart) q.joins why k)
+  pub filters : (all_of (rel_of tables) 0 q.relations ≡ Err why) ↔ ((k : ℕ) × IsFirstRefused (rel_of tables) q.relations why k)
+  pub selectivities : (all_of (pred_of tables q.relations) 0 q.joins ≡ Err why) ↔ ((k : ℕ) × IsFirstRefused (pred_of tables q.relations) q.joins why k)
+
+abbrev pub PassesRefuseTheLeastPlace : Type 0
+PassesRefuseTheLeastPlace = (tables : List Table) (q : QueryItem) (why : QueryRefusal) → RefusesTheLeastPlace tables q why

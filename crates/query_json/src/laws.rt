@@ -1,5 +1,5 @@
 //! Laws on what a file means.
-ghost use Rattle.query_json.specs.Laws.{AcceptedEntriesAreSound, FirstUnreachedByWalks};
+ghost use Rattle.query_json.specs.Laws.{AcceptedEntriesAreSound, DuplicateAliasesByPlace, DuplicateTablesByPlace, FirstUnreachedByWalks, PassesRefuseTheLeastPlace};
 
 /// The relation for which a query is refused as not connected is the least that no walk from relation 0 reaches, and
 /// there is none exactly where the query is connected.
@@ -10,4 +10,20 @@ pub fn unreached_by_walks()
 /// Each accepted entry of a file is a connected query within the limits, with one alias for each of its relations.
 pub fn accepted_entries_are_sound()
     ensures { AcceptedEntriesAreSound }
+{}
+
+/// The table that a file is refused for is the first whose name an earlier table has.
+pub fn duplicate_tables_by_place()
+    ensures { DuplicateTablesByPlace }
+{}
+
+/// The alias that a query is refused for is that of the first relation whose alias an earlier relation has.
+pub fn duplicate_aliases_by_place()
+    ensures { DuplicateAliasesByPlace }
+{}
+
+/// Each pass over the relations or the joins of a query refuses exactly what its least refused member is refused for. The
+/// order of the passes is that of the lines of `query_of`.
+pub fn passes_refuse_the_least_place()
+    ensures { PassesRefuseTheLeastPlace }
 {}
