@@ -23,7 +23,7 @@ use Rattle.query_json.specs.Walk.{file_of, json_at}
 use Rattle.workload_gen.specs.declared.sample.Table.{Table}
 use Rattle.workload_gen.specs.declared.sample.Relation.{Relation}
 use Rattle.workload_gen.specs.declared.sample.Join.{Join}
-use Rattle.workload_gen.specs.Accepted.{HoldsEightQueries, IsAccepted}
+use Rattle.workload_gen.specs.Accepted.{EverySampleHoldsEightQueries, HoldsEightQueries, IsAccepted}
 use Rattle.workload_gen.specs.Draws.{sample_of, seeded}
 use Rattle.workload_gen.specs.Sample.{Sample, SampleQuery}
 use Rattle.workload_gen.specs.Values.{alias, join_value, join_value_by, query_value, relation_value, table_name, table_value, values, workload_value}
@@ -140,3 +140,7 @@ accepted number d (Ok b) is text reads =
     let few : depth d ≤ max_depth = (let deep = workload_depth (sample_of number) in omega (arith, ap depth is)) in
     bytes_ok (sample_of number) (sample_is (seeded number)) b.items text (reads few ∙ ap Some is)
 accepted number d (Err e) is text reads = tt
+
+pub every_sample : EverySampleHoldsEightQueries
+unfolding sample_of
+every_sample number bytes text reads = bytes_ok (sample_of number) (sample_is (seeded number)) bytes text reads
