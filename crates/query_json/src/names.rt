@@ -20,7 +20,9 @@ pub trait HasName {
 /// A name stands twice, or memory ran out.
 #[derive(Debug, Drop)]
 pub enum Repeat {
+    /// Memory ran out, which says nothing of the names.
     NoMemory,
+    /// The first name that stands twice.
     Name(Name),
 }
 

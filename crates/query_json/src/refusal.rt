@@ -1,6 +1,7 @@
 //! Why a query is refused.
 ghost use Rattle.std.specs.Prelude.{◌≡◌};
 ghost use Rattle.query_json.specs.declared.refusal.Stop.TheVariants.{NoMemory};
+ghost use Rattle.query_json.specs.Texts.{refusal_code};
 
 use dpe_base::Name;
 use std::alloc::{AllocError, AllocFailed};
@@ -37,10 +38,31 @@ pub enum QueryRefusal {
     Disconnected(Name),
 }
 
+impl QueryRefusal {
+    /// The refusal's number, from 1 to 9.
+    pub fn code(&self) -> u8
+        ensures { result ≡ refusal_code self.now }
+    {
+        match self {
+            QueryRefusal::NoRelations => 1,
+            QueryRefusal::TooManyRelations(_) => 2,
+            QueryRefusal::DuplicateAlias(_) => 3,
+            QueryRefusal::UnknownTable(_) => 4,
+            QueryRefusal::UnknownAlias(_) => 5,
+            QueryRefusal::UnknownColumn(_, _) => 6,
+            QueryRefusal::SelfJoin(_) => 7,
+            QueryRefusal::BadFraction(_) => 8,
+            QueryRefusal::Disconnected(_) => 9,
+        }
+    }
+}
+
 /// A query is refused, or memory ran out.
 #[derive(Debug, Drop)]
 pub enum Stop {
+    /// Memory ran out, which says nothing of the query.
     NoMemory,
+    /// The query is refused.
     Refused(QueryRefusal),
 }
 

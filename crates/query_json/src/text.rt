@@ -1,6 +1,6 @@
 //! Places and refusals as they are printed.
 ghost use Rattle.std.specs.Prelude.{◌≡◌, ◌++◌, OnOk, string_bytes};
-ghost use Rattle.query_json.specs.Texts.{frac_place_text, path_of, refusal_code, refusal_text};
+ghost use Rattle.query_json.specs.Texts.{frac_place_text, path_of, refusal_text};
 
 use crate::place::{Place, Site};
 use crate::refusal::{FracPlace, QueryRefusal};
@@ -105,25 +105,6 @@ pub fn write_refusal(out: &mut String, refusal: &QueryRefusal) -> Result<(), All
         QueryRefusal::BadFraction(place) => write_frac_place(out, "bad fraction at ", *place),
         QueryRefusal::Disconnected(alias) => {
             write_around(out, "relation ", alias, " is not connected")
-        }
-    }
-}
-
-impl QueryRefusal {
-    /// The refusal's number, from 1 to 9.
-    pub fn code(&self) -> u8
-        ensures { result ≡ refusal_code self.now }
-    {
-        match self {
-            QueryRefusal::NoRelations => 1,
-            QueryRefusal::TooManyRelations(_) => 2,
-            QueryRefusal::DuplicateAlias(_) => 3,
-            QueryRefusal::UnknownTable(_) => 4,
-            QueryRefusal::UnknownAlias(_) => 5,
-            QueryRefusal::UnknownColumn(_, _) => 6,
-            QueryRefusal::SelfJoin(_) => 7,
-            QueryRefusal::BadFraction(_) => 8,
-            QueryRefusal::Disconnected(_) => 9,
         }
     }
 }
