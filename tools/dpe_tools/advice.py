@@ -29,6 +29,9 @@ ORDERS_MAX = 4
 PAIRS_MAX = 20_000_000
 """How many pairs of connected sets dpe may go through for one model, where one join graph alone hasn't more."""
 
+DOUBTFUL_BELOW = 0.5
+"""An order of which PostgreSQL expects fewer rows than this part of the default's is costed too low: the rows are the same."""
+
 RUNS = 2
 """How often a statement is run for its time, of which the least counts."""
 
@@ -67,6 +70,21 @@ class Order:
     plan: Plan
     sql: str
     explained: Explained
+
+
+def is_doubtful(order: Explained, default: Explained) -> bool:
+    """Whether PostgreSQL expects so many fewer rows of an order than of the default that their costs don't compare."""
+    if order.plan is None or default.plan is None or order.plan.aliases() != default.plan.aliases():
+        return False
+    return order.plan.rows < default.plan.rows * DOUBTFUL_BELOW
+
+
+def doubts(order: Explained, default: Explained) -> list[str]:
+    """The warning where an order is costed too low."""
+    if not is_doubtful(order, default):
+        return []
+    rows = f"{order.plan.rows} rows of this order and {default.plan.rows} of the default"
+    return [f"doubtful: PostgreSQL expects {rows}, so its costs hardly compare: try --analyze"]
 
 
 @dataclass
@@ -111,7 +129,7 @@ class Adviser:
         self.database = database
         self.text = text.strip().rstrip(";")
         select = parse_select(text)
-        self._default = database.explain(self.text, {})
+        explained = database.explain(self.text, {})
         self._columns = database.result_columns(self.text)
         self.query = read_query(select, database, [name for name, _ in self._columns])
         oids = list({relation.table.oid for relation in self.query.relations.values()})
@@ -119,16 +137,22 @@ class Adviser:
         self.estimates = estimate(self.query, self.graphs, database)
         self.workload = workload_of(self.query, self.graphs, self.estimates)
         self.left_out = 0
+        self.default = Explained.of(explained, self.query)
 
-    def order(self, model: str) -> Order:
-        """The best order of a model: of the cheapest of each join graph, the one that the server finds cheapest."""
+    def best(self, models: tuple[str, ...]) -> Order:
+        """The order that the server finds cheapest, of those that it doesn't cost too low where there are some."""
+        orders = [order for model in models for order in self._orders(model)]
+        sound = [order for order in orders if not is_doubtful(order.explained, self.default)]
+        return min(sound or orders, key=lambda order: order.explained.cost)
+
+    def _orders(self, model: str) -> list[Order]:
+        """Of the orders of all join graphs the one of the graph as written, and the cheapest others by the model."""
         first, *others = self._planned(model)
         chosen: dict[frozenset[frozenset[str]], dict[str, Any]] = {}
         for entry in [first, *sorted(others, key=lambda entry: entry["cost"])]:
             joined = frozenset(join.aliases() for join in plan_of_report(entry["plan"]).joins())
             chosen.setdefault(joined, entry)
-        orders = [self._order(model, entry) for entry in list(chosen.values())[:ORDERS_MAX]]
-        return min(orders, key=lambda order: order.explained.cost)
+        return [self._order(model, entry) for entry in list(chosen.values())[:ORDERS_MAX]]
 
     def _planned(self, model: str) -> list[dict[str, Any]]:
         """The report's entries of the join graph as written, and of as many others as PAIRS_MAX allows."""
@@ -149,13 +173,12 @@ class Adviser:
 
     def advise(self, options: Options) -> Advice:
         """The advice, with times and actual rows where they are asked for."""
-        orders = [self.order(model) for model in MODELS[options.model]]
-        order = min(orders, key=lambda order: order.explained.cost)
-        default = Explained.of(self._default, self.query)
+        order = self.best(MODELS[options.model])
         seconds = options.full_search_seconds
         full = self.database.explain_within(self.text, full_search(len(self.query.relations)), seconds)
         full = Explained.of(full, self.query) if full else None
-        advice = Advice(self.query, self.workload, default, order, full, seconds, self.notes())
+        notes = doubts(order.explained, self.default) + self.notes()
+        advice = Advice(self.query, self.workload, self.default, order, full, seconds, notes)
         return self._measured(advice) if options.analyze else advice
 
     def _measured(self, advice: Advice) -> Advice:

@@ -56,7 +56,7 @@ def measure(runs: int, model: str, chosen: str) -> None:
 def _row(name: str, text: str, database: Database, runs: int, model: str) -> Row:
     began = time.monotonic()
     adviser = Adviser(text, database)
-    order = min((adviser.order(each) for each in MODELS[model]), key=lambda order: order.explained.cost)
+    order = adviser.best(MODELS[model])
     tool = (time.monotonic() - began) * 1000
     settings = full_search(len(adviser.query.relations))
     full_ends = database.explain_within(text, settings, PLANNING_SECONDS_MAX) is not None

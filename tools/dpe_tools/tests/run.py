@@ -12,10 +12,11 @@ from pathlib import Path
 
 import psycopg
 
-from ..advice import AS_WRITTEN, MODELS, Adviser, Options, is_cheaper, text_of
+from ..advice import AS_WRITTEN, MODELS, Adviser, Explained, Options, doubts, is_cheaper, text_of
 from ..database import Database
 from ..graphs import GRAPHS_MAX
 from ..planner import plan_workload
+from ..plans import Plan
 from ..refusals import Refused
 from ..server import private_server
 from .schema import SCHEMA
@@ -90,7 +91,7 @@ def _same_rows(name: str, text: str, connection: psycopg.Connection, database: D
     if not rows:
         return "no rows, so nothing is compared"
     for model in MODELS["best"]:
-        order = adviser.order(model)
+        order = adviser.best((model,))
         if _rows(order.sql, AS_WRITTEN, connection) != rows:
             return f"other rows by {model}: {order.sql}"
         theirs = order.explained.plan
@@ -198,7 +199,11 @@ def _advice(tests: Tests) -> None:
     def guarded() -> None:
         assert is_cheaper(99, 100) and not is_cheaper(99.5, 100) and not is_cheaper(101, 100)
 
-    for case in (better, kept, pasted, analyzed, workload, guarded, lambda: _costlier(tests)):
+    def doubted() -> None:
+        default, low, near = (Explained(1.0, 1.0, Plan("scan", rows, 1.0, "a")) for rows in (100, 49, 50))
+        assert doubts(low, default) and not doubts(near, default) and not doubts(default, low)
+
+    for case in (better, kept, pasted, doubted, analyzed, workload, guarded, lambda: _costlier(tests)):
         tests.case(f"advice {case.__name__}", case)
 
 
