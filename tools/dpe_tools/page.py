@@ -6,9 +6,11 @@ from dataclasses import dataclass
 from html import escape
 from typing import Any
 
-from .advice import Advice, hint_of, join_rows, sql_of, verdict_lines
+from .advice import Advice
 from .draw import graph_of_workload, plan_picture, render, short
 from .plans import Plan, plan_of_report
+from .refusals import Refused
+from .wording import hint_of, join_rows, sql_of, verdict_lines
 
 STYLE = """
 :root { color-scheme: light dark; --ground: #fcfcfb; --ink: #1c1f23; --quiet: #5b6470; --line: #c9ced6;
@@ -20,7 +22,7 @@ body { margin: 0 auto; max-width: 96rem; padding: 1rem; background: var(--ground
   font: 1rem/1.5 system-ui, "DejaVu Sans", sans-serif; }
 h1 { font-size: 1.5rem; } h2 { font-size: 1.2rem; margin-top: 2.5rem; border-top: 1px solid var(--line); padding-top: 1rem; }
 h3 { font-size: 1rem; margin-bottom: .25rem; }
-p { margin: .25rem 0; } .quiet { color: var(--quiet); } .verdict { font-size: 1.15rem; font-weight: 600; color: var(--good); }
+p { margin: .25rem 0; } .quiet { color: var(--quiet); } .verdict { font-size: 1.15rem; font-weight: 600; } .better { color: var(--good); }
 .columns { display: flex; flex-wrap: wrap; gap: 1rem; } .columns > div { flex: 1 1 20rem; min-width: 0; }
 .picture, pre, .table { overflow-x: auto; border: 1px solid var(--line); border-radius: .4rem; padding: .5rem; }
 .picture svg { display: block; margin: 0 auto; }
@@ -56,7 +58,9 @@ def page(title: str, body: str) -> str:
 def page_of_report(report: dict[str, Any], workload: dict[str, Any] | None) -> str:
     """A page with the plans of a report, and with their join graphs where the workload is given."""
     tables = {table["name"]: table for table in (workload or {}).get("tables", [])}
-    queries = (workload or {}).get("queries") or [None] * len(report["queries"])
+    queries = workload["queries"] if workload else [None] * len(report["queries"])
+    if workload and [query["name"] for query in queries] != [entry["name"] for entry in report["queries"]]:
+        raise Refused("the workload has other queries than the report")
     figures = [_figures(place, *pair, tables) for place, pair in enumerate(zip(report["queries"], queries))]
     drawn = iter(render([figure.picture for some in figures for figure in some]))
     parts = []
@@ -124,7 +128,8 @@ def page_of_advice(advice: Advice) -> str:
 
 def _verdict(advice: Advice) -> str:
     first, *others = verdict_lines(advice)
-    return f'<p class="verdict">{escape(first)}</p>\n' + "\n".join(f'<p class="quiet">{escape(line)}</p>' for line in others)
+    classes = "verdict better" if advice.is_better else "verdict"
+    return f'<p class="{classes}">{escape(first)}</p>\n' + "\n".join(f'<p class="quiet">{escape(line)}</p>' for line in others)
 
 
 def _table(advice: Advice) -> str:

@@ -12,13 +12,14 @@ from pathlib import Path
 
 import psycopg
 
-from ..advice import AS_WRITTEN, MODELS, Adviser, Explained, Options, doubts, is_cheaper, text_of
+from ..advice import AS_WRITTEN, MODELS, Adviser, Explained, Options, doubts, is_cheaper
 from ..database import Database
 from ..graphs import GRAPHS_MAX
 from ..planner import plan_workload
 from ..plans import Plan
 from ..refusals import Refused
 from ..server import private_server
+from ..wording import text_of
 from .schema import SCHEMA
 from .statements import ACCEPTED, REFUSED
 
@@ -38,7 +39,7 @@ class Tests:
         """One test: it gives nothing, or what is wrong."""
         try:
             wrong = test()
-        except (Refused, AssertionError, psycopg.Error) as error:
+        except Exception as error:  # whatever goes wrong is a failed test
             wrong = f"{type(error).__name__}: {error}"
         self.passed += wrong is None
         self.failed += wrong is not None
@@ -222,11 +223,19 @@ def _faults(tests: Tests) -> None:
         assert done.returncode == 1 and done.stderr.startswith("advise: no connection: "), done
         assert done.stderr.count("\n") == 1, done
 
+    def no_text() -> None:
+        done = subprocess.run([TOOLS / "advise", tests.conninfo], input=b"SELECT \xff", capture_output=True, check=False)
+        assert done.returncode == 1 and done.stderr == b"advise: the statement isn't UTF-8\n", done
+
+    def no_page() -> None:
+        done = tests.advise(SMALL, "--html", "/nowhere/page.html")
+        assert done.returncode == 1 and done.stderr.count("\n") == 1 and "/nowhere/page.html" in done.stderr, done
+
     def without_dpe() -> None:
         done = tests.advise(NINE, environment={"DPE": "/nowhere/dpe"})
         assert done.returncode == 1 and done.stderr == "advise: /nowhere/dpe: No such file or directory\n", done
 
-    for case in (read_only, limited, unreachable, without_dpe):
+    for case in (read_only, limited, unreachable, no_text, no_page, without_dpe):
         tests.case(f"faults {case.__name__}", case)
 
 
@@ -297,9 +306,16 @@ def _other_tools(tests: Tests) -> None:
 
     def draw_no_report() -> None:
         done = tests.tool("draw", [], "[]")
-        assert done.returncode == 1 and done.stderr == "draw: standard input is no JSON report of dpe\n", done
+        assert done.returncode == 1 and done.stderr == "draw: no JSON report of dpe, or no workload\n", done
 
-    for case in (catalogue, catalogue_of_a_schema, catalogue_of_no_schema, draw_a_hundred, draw_a_refusal, draw_no_report):
+    def draw_another_workload() -> None:
+        examples = TOOLS.parent / "examples"
+        report = (examples / "first-json.report").read_text()
+        done = tests.tool("draw", ["--workload", str(examples / "tpch.json")], report)
+        assert done.returncode == 1 and done.stderr == "draw: the workload has other queries than the report\n", done
+
+    of_catalogue = (catalogue, catalogue_of_a_schema, catalogue_of_no_schema)
+    for case in (*of_catalogue, draw_a_hundred, draw_a_refusal, draw_no_report, draw_another_workload):
         tests.case(case.__name__.replace("_", " "), case)
 
 
@@ -323,7 +339,8 @@ def _browser() -> str | None:
 def _open(words: list[str], file: Path) -> subprocess.CompletedProcess[str]:
     with tempfile.TemporaryDirectory(prefix="dpe-chromium-") as profile:
         fixed = ["--headless", "--no-sandbox", "--disable-gpu", "--hide-scrollbars", f"--user-data-dir={profile}"]
-        return subprocess.run([_browser(), *fixed, *words, f"file://{file}"], capture_output=True, text=True, check=False)
+        command = [_browser(), *fixed, *words, f"file://{file}"]
+        return subprocess.run(command, capture_output=True, text=True, check=False, timeout=120)
 
 
 def _screenshots(tests: Tests, folder: Path) -> None:
