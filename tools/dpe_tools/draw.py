@@ -82,7 +82,7 @@ def _label(node: Plan) -> str:
     first = node.operator if node.alias is None else f"{node.operator} {node.alias}"
     cost = "" if node.cost is None else f"\ncost {short(node.cost)}"
     actual = "" if node.actual is None else f"\nactual {short(node.actual)}"
-    return f"{first}\n{short(node.rows)} rows{actual}{cost}"
+    return f"{first}\n{counted(node.rows)}{actual}{cost}"
 
 
 def short(number: float) -> str:
@@ -92,6 +92,11 @@ def short(number: float) -> str:
             shown = number / (1e3 if letter == "k" else size)
             return f"{shown:.0f}{letter}" if shown >= 100 else f"{shown:.1f}{letter}"
     return f"{number:.0f}"
+
+
+def counted(rows: int) -> str:
+    """So many rows, in words."""
+    return "1 row" if rows == 1 else f"{short(rows)} rows"
 
 
 def _width(rows: int) -> float:
@@ -121,7 +126,7 @@ def _relation_label(relation: dict[str, Any], tables: dict[str, dict[str, Any]])
     rows = tables[table]["rows"]
     kept, of = relation.get("filter") or (1, 1)
     filtered = f" → {short(rows * kept / of)}" if kept != of and of else ""
-    return f"{name}\n{short(rows)}{filtered} rows"
+    return f"{name}\n{short(rows)}{filtered} rows" if filtered else f"{name}\n{counted(rows)}"
 
 
 def _edge_label(join: dict[str, Any], tables: dict[str, dict[str, Any]]) -> str:

@@ -7,7 +7,7 @@ from html import escape
 from typing import Any
 
 from .advice import Advice
-from .draw import graph_of_workload, plan_picture, render, short
+from .draw import counted, graph_of_workload, plan_picture, render, short
 from .plans import Plan, plan_of_report
 from .refusals import Refused
 from .wording import hint_of, join_rows, sql_of, verdict_lines
@@ -104,7 +104,7 @@ def _item(plan: Plan) -> str:
     name = plan.operator if plan.alias is None else f"{plan.operator} {plan.alias}"
     cost = "" if plan.cost is None else f", cost {short(plan.cost)}"
     below = "".join(_item(child) for child in plan.children)
-    return f"<li>{escape(name)}: {short(plan.rows)} rows{cost}" + (f"<ul>{below}</ul>" if below else "") + "</li>"
+    return f"<li>{escape(name)}: {counted(plan.rows)}{cost}" + (f"<ul>{below}</ul>" if below else "") + "</li>"
 
 
 def page_of_advice(advice: Advice) -> str:

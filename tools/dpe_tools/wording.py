@@ -58,7 +58,7 @@ def hint_of(advice: Advice) -> str:
 def _hint(advice: Advice) -> str:
     limit = len(advice.query.relations)
     return (
-        f"-- or by pg_hint_plan, before the statement as it was, with both collapse limits at {limit} or more:\n"
+        f"-- or by pg_hint_plan, before the statement as it was, with both collapse limits at {limit} or more and geqo off:\n"
         f"{hint_of(advice)}"
     )
 

@@ -173,7 +173,10 @@ def _advice(tests: Tests) -> None:
         done = tests.advise(NINE)
         first = done.stdout.split("\n")[0]
         assert done.returncode == 0 and first.startswith("default ") and first.endswith(": better"), done
-        assert "SET LOCAL join_collapse_limit = 1;" in done.stdout and "/*+ Leading(" in done.stdout, done.stdout
+        assert "SET LOCAL join_collapse_limit = 1;" in done.stdout, done.stdout
+        hint = next(line for line in done.stdout.split("\n") if line.startswith("/*+ Leading("))
+        aliases = hint.removeprefix("/*+ Leading(").removesuffix(") */").replace("(", " ").replace(")", " ").split()
+        assert sorted(aliases) == sorted("r n t c o l u p s".split()) and hint.count("(") == hint.count(")"), hint
 
     def kept() -> None:
         done = tests.advise(SMALL)
