@@ -169,3 +169,36 @@ fn a_name_keeps_its_text(rt: HostRuntime) -> Result<(), Fail> {
     assert_eq!(rt; name.text(), "größe");
     Ok(())
 }
+
+#[test]
+fn the_rows_of_one_relation_are_changed(rt: HostRuntime) -> Result<(), Fail> {
+    let rel = Rel {
+        rows: 10,
+        num: 1,
+        den: 3,
+    };
+    let pred = Pred {
+        low: 0,
+        high: 1,
+        num: 1,
+        den: 2,
+    };
+    let made = query_of(rt.alloc(), 2, 1, rel, pred)?;
+    let mut query = made.ok().ok_or("a fault")?;
+    assert_eq!(rt; query.n(), 2);
+    query.set_rows(1, INPUT_CAP);
+    assert_eq!(rt;
+        query.rels(),
+        [
+            rel,
+            Rel {
+                rows: INPUT_CAP,
+                num: 1,
+                den: 3
+            }
+        ]
+        .as_slice()
+    );
+    assert_eq!(rt; query.preds(), [pred].as_slice());
+    Ok(())
+}
