@@ -1,13 +1,7 @@
 -- Scaled numbers round up to the least whole number, and keep the top digits.
-use Rattle.std.specs.Prelude.{◌≡◌, ◌↔◌, ◌≤◌, ◌<◌, ◌+◌, ◌-◌, ◌*◌, ◌^◌, ◌-ℤ◌, ℕ, pos, negsuc, suc}
+use Rattle.std.specs.Prelude.{◌≡◌, ◌≤◌, ◌<◌, ◌+◌, ◌-◌, ◌*◌, ◌^◌, ◌-ℤ◌, ℕ, pos}
 use Rattle.dpe_base.specs.Digits.{digits}
-use Rattle.card_scaled.specs.Scaled.{norm, least_above}
-
--- a number with a scale that isn't negative is whole, and `least_above` of another is the least k that isn't below it
-abbrev pub RoundedUp : Type 0
-RoundedUp =
-    ((m e : ℕ) → least_above m (pos e) ≡ m * 2 ^ e)
-    × ((m e k : ℕ) → (least_above m (negsuc e) ≤ k) ↔ (m ≤ k * 2 ^ suc e))
+use Rattle.card_scaled.specs.Scaled.{norm}
 
 -- the digits that are kept of x: 32 of them, all where there are no more, and otherwise the top ones
 pub record KeepsTopDigits (x : ℕ) : Type 0 where
@@ -17,6 +11,3 @@ pub record KeepsTopDigits (x : ℕ) : Type 0 where
   pub few : digits x ≤ 32 → (norm x).mantissa ≡ x * 2 ^ (32 - digits x)
   pub many_below : 32 ≤ digits x → (norm x).mantissa * 2 ^ (digits x - 32) ≤ x
   pub many_above : 32 ≤ digits x → x < ((norm x).mantissa + 1) * 2 ^ (digits x - 32)
-
-abbrev pub TopDigits : Type 0
-TopDigits = (x : ℕ) → 1 ≤ x → x < 2 ^ 128 → KeepsTopDigits x

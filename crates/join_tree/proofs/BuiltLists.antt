@@ -15,7 +15,7 @@ use Rattle.cost_model.specs.Costs.{operators}
 use Rattle.cost_model.specs.Words.{split_word}
 use Rattle.cost_model.proofs.WordLaws.{least_split_below_is}
 use Rattle.join_tree.specs.Trees.{JoinTree, leaf, join, set_of, Trees, Made, LeastOverPairs, Builds, pair_word}
-use Rattle.join_tree.specs.BuiltLists.{IsBuilt, HasBestPair, IsWorkable, BuiltListsAreWorkable}
+use Rattle.join_tree.specs.BuiltLists.{IsBuilt, HasBestPair, IsWorkable}
 use Rattle.join_tree.proofs.TreeLaws.{connected_size_some, connected_single_known}
 use Rattle.join_tree.proofs.BestLaws.{least_single}
 use Rattle.join_tree.proofs.Substructure.{sides_smaller, pair_size_few, join_made, each_has_least, least_over_pairs_exists, least_from_pairs}
@@ -89,5 +89,5 @@ module _ (model : ℕ) (q : JoinQuery) (pairs : List Pair) (ok : IsQuery q) (bui
         best_pair = best_pair;
       }
 
-pub built_lists_are_workable : BuiltListsAreWorkable
+pub built_lists_are_workable : (model : ℕ) (q : JoinQuery) (pairs : List Pair) → IsQuery q → Builds (graph_of q) pairs → IsWorkable model q pairs
 built_lists_are_workable model q pairs ok builds = workable model q pairs ok builds

@@ -1,4 +1,5 @@
 -- Each tree in a plan has the least cost, and then the least root.
+use Rattle.join_tree.specs.Trees.{Plan}
 use Rattle.std.proofs.Common.{◌≡◌, ℕ, ◌+◌, ◌*◌, ◌≤◌, ◌<◌, ◌⊎◌, arith, inl, inr, refl}
 use Rattle.std.proofs.lemmas.Bool.{cases_lt}
 use Rattle.dpe_base.specs.declared.TheConstants.{COST_LIMIT, SPAN}
@@ -10,7 +11,7 @@ use Rattle.cost_model.specs.Words.{word}
 use Rattle.cost_model.proofs.CostLaws.{operators_few}
 use Rattle.cost_model.proofs.LawProofs.{words_are_ordered}
 use Rattle.cost_model.proofs.WordLaws.{word-below}
-use Rattle.join_tree.specs.Laws.{root_operator, root_left, IsNoWorse, PlansAreLeast}
+use Rattle.join_tree.specs.Laws.{root_operator, root_left, IsNoWorse}
 use Rattle.join_tree.specs.Trees.{JoinTree, leaf, join, set_of, cost, root_word, Legal, EverySubtree}
 use Rattle.join_tree.proofs.BestLaws.{HasBest, legal_small, least_split_below}
 
@@ -58,5 +59,5 @@ each_no_worse model q (join op x y) ok l b = (
   each_no_worse model q y ok l.2 b.2,
 )
 
-pub plans_are_least : PlansAreLeast
+pub plans_are_least : (model : ℕ) (q : JoinQuery) (s : ℕ) (t : JoinTree) → IsQuery q → Plan model q s t → EverySubtree (λ u. (v : JoinTree) → Legal model (graph_of q) v → set_of v ≡ set_of u → IsNoWorse model q u v) t
 plans_are_least model q s t ok p = each_no_worse model q t ok p.legal p.best

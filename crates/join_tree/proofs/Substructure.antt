@@ -14,7 +14,6 @@ use Rattle.cost_model.specs.Words.{word, word_cost, split_word, least_split_word
 use Rattle.cost_model.proofs.CostLaws.{operators_some, operators_few, first_cost_capped}
 use Rattle.cost_model.proofs.WordLaws.{word-below, word_mono, word_cost-word, word_not_empty, least_split_below_le, least_split_below_is}
 use Rattle.join_graph.specs.PairLists.{SideBuilt}
-use Rattle.join_tree.specs.Laws.{OptimalSubstructure, SidesHaveLeastWords}
 use Rattle.join_tree.specs.Trees.{JoinTree, leaf, join, set_of, cost, leaf_word, root_word, HasWord, Trees, Made, Least, LeastOfPair, LeastOverPairs, Builds}
 use Rattle.card_scaled.proofs.CardLaws.{rows_bounds}
 use Rattle.join_tree.proofs.TreeLaws.{connected_small, connected_size_some, connected_single_known, legal_connected, made_legal}
@@ -312,10 +311,10 @@ module _ (model : ℕ) (q : JoinQuery) (pairs : List Pair) (ok : IsQuery q) (bui
           let x : (v : ℕ) × LeastOverPairs model q pairs s v = least_over_pairs_exists s (each_has_least s) p.0 p.1 (p.2 ∙ least.made.over) in
           subst (LeastOverPairs model q pairs s) (least_word_same model q pairs s x.0 w (least_from_pairs s x.0 many (each_has_least s) x.1) least) x.1
 
-pub optimal_substructure : OptimalSubstructure
+pub optimal_substructure : (model : ℕ) (q : JoinQuery) (pairs : List Pair) → IsQuery q → Builds (graph_of q) pairs → (s w : ℕ) → 2 ≤ size s → Least model q pairs s w ↔ LeastOverPairs model q pairs s w
 optimal_substructure model q pairs ok builds s w many = least_over_pairs model q pairs ok builds s w many
 
-pub sides_have_least_words : SidesHaveLeastWords
+pub sides_have_least_words : (model : ℕ) (q : JoinQuery) (pairs : List Pair) → IsQuery q → Builds (graph_of q) pairs → (p : Pair) → Contains pairs p → ((w : ℕ) × Least model q pairs p.a w) × ((w : ℕ) × Least model q pairs p.b w)
 sides_have_least_words model q pairs ok builds p c = (
   least_exists model q pairs ok builds (suc p.a) p.a (omega arith) (pair_sides model q pairs ok builds p c).0,
   least_exists model q pairs ok builds (suc p.b) p.b (omega arith) (pair_sides model q pairs ok builds p c).1,

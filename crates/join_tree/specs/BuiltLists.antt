@@ -2,10 +2,9 @@
 use Rattle.std.specs.Prelude.{◌≡◌, ℕ, ◌^◌, ◌<◌, ◌≤◌, ◌⊎◌, List, Contains}
 use Rattle.dpe_base.specs.declared.TheConstants.{N_MAX}
 use Rattle.dpe_base.specs.declared.pair.Pair.{Pair}
-use Rattle.dpe_base.specs.Queries.{JoinQuery, relations, IsQuery}
+use Rattle.dpe_base.specs.Queries.{JoinQuery, relations}
 use Rattle.dpe_base.specs.Sets.{union, single, size}
-use Rattle.join_graph.specs.Graphs.{graph_of}
-use Rattle.join_tree.specs.Trees.{Made, IsEmptyOrMade, Least, LeastOfPair, Builds, leaf_word, pair_word}
+use Rattle.join_tree.specs.Trees.{Made, IsEmptyOrMade, Least, LeastOfPair, leaf_word, pair_word}
 
 -- the set is a relation alone, or the union of a pair of the list
 abbrev pub IsBuilt : JoinQuery → List Pair → ℕ → Type 0
@@ -34,7 +33,3 @@ pub record IsWorkable (model : ℕ) (q : JoinQuery) (pairs : List Pair) : Type 0
   -- where the least words come from
   pub leaves : (r : ℕ) → r < relations q → Least model q pairs (single r) (leaf_word r)
   pub best_pair : (p : Pair) → Contains pairs p → HasBestPair model q pairs (union p.a p.b)
-
-abbrev pub BuiltListsAreWorkable : Type 0
-BuiltListsAreWorkable =
-    (model : ℕ) (q : JoinQuery) (pairs : List Pair) → IsQuery q → Builds (graph_of q) pairs → IsWorkable model q pairs

@@ -1,10 +1,13 @@
 -- A settled word is final.
+use Rattle.memo_table.specs.Rule.{Kept, TableState}
+use mathlib.Core.Option.{some}
+use Rattle.memo_table.specs.declared.view.TreeSpace.{TreeSpace}
+use lib.ListN.{get_elem?}
 use Rattle.std.proofs.Common.{◌≡◌, ◌<◌, ◌≤◌, ℕ, Contains, arith, ⊎_elim, subst}
 use Rattle.dpe_base.specs.declared.TheConstants.{EMPTY}
 use Rattle.dpe_base.proofs.Members.{contains_none}
 use Rattle.join_tree.specs.Trees.{Made, Least}
 use Rattle.memo_table.specs.declared.view.View.{View}
-use Rattle.memo_table.specs.Laws.{SettledWordsAreFinal}
 use Rattle.memo_table.specs.Rule.{memo_word}
 use Rattle.memo_table.specs.Seats.{Settled}
 use Rattle.memo_table.proofs.TreeWords.{made_below}
@@ -14,7 +17,7 @@ pub loaded_least : (model : ℕ) (v : View) (s x : ℕ) → Settled model v s �
 loaded_least model v s x settled made low =
     record { made = made; least = λ u m. let a = low settled.word settled.bound in let b = settled.least.least u m in omega arith }
 
-pub settled_is_final : SettledWordsAreFinal
+pub settled_is_final : (model : ℕ) (space : TreeSpace) (t : TableState) (seat s : ℕ) (v : View) → Kept model space t → get_elem? t.views seat ≡ some v → (x : Settled model v s) → memo_word t.words s ≡ x.word
 settled_is_final model space t seat s v k at x = ⊎_elim
     (λ e. let F : View → Type 0 = λ u. Contains u.bounds (s, x.word) in absurd (contains_none (s, x.word) (subst F e x.bound)))
     (λ live.

@@ -4,4 +4,3 @@ pub mod Steps
 pub mod Seats
 pub mod Making
 pub mod Finishing
-pub mod Laws

@@ -14,7 +14,7 @@ use Rattle.dpe_base.proofs.SetLaws.{disjoint_by_inter}
 use Rattle.dpe_base.proofs.SizeLaws.{meets_by_inter, meets_true}
 use Rattle.dpe_base.proofs.ListOrder.{order_same}
 use Rattle.skip_vector.proofs.PrefixLaws.{HasIn, hasin_meets, up_to_here, up_to_later}
-use Rattle.skip_vector.specs.Skips.{first_relations, up_to, blocking_prefix, is_free, IsPart, IsAfter, has_blocking_prefix, is_probed, probes, NoneFree, IsFirstFree, IsColumn, IsProbed, PrefixesStandTogether}
+use Rattle.skip_vector.specs.Skips.{first_relations, up_to, blocking_prefix, is_free, IsPart, IsAfter, has_blocking_prefix, is_probed, probes, NoneFree, IsFirstFree, IsColumn, IsProbed}
 
 -- ---- lists
 
@@ -82,7 +82,7 @@ take-between (suc p) (r ∷ rs) (s ∷ ss) (t ∷ ts) a b e =
           cc
     ]
 
-pub prefixes_together : PrefixesStandTogether
+pub prefixes_together : (part : List ℕ) (p i j k : ℕ) → IsPart part → i < j → j < k → k < length part → first_relations p (slice_index part i) ≡ first_relations p (slice_index part k) → first_relations p (slice_index part j) ≡ first_relations p (slice_index part i)
 prefixes_together part p i j k ok a b l e =
     take-between p (members (slice_index part i)) (members (slice_index part j)) (members (slice_index part k)) (ok.ascends i j a (omega arith)) (ok.ascends j k b l) e
 

@@ -1,5 +1,5 @@
 -- Prefixes of the ascending lists of sets, and the places of a part that a scan by skips looks at.
-use Rattle.std.specs.Prelude.{◌≡◌, ◌≢◌, ◌↔◌, ◌⊎◌, IsTrue, ℕ, zero, suc, ◌+◌, ◌-◌, ◌<◌, ◌≤◌, Bool, true, false, not, ◌||◌, ◌==◌, nat_eq, if◌then◌else◌, List, [], ◌∷◌, length, take, slice_index, get_or, Vec}
+use Rattle.std.specs.Prelude.{◌≡◌, ◌≢◌, ◌⊎◌, ℕ, zero, suc, ◌+◌, ◌-◌, ◌<◌, ◌≤◌, Bool, true, false, not, ◌||◌, ◌==◌, nat_eq, if◌then◌else◌, List, [], ◌∷◌, length, take, slice_index, get_or, Vec}
 use Rattle.std.specs.Cmp.Lexicographic.{pointwise}
 use Rattle.std.specs.declared.alloc.Global.{Global}
 use Rattle.std.specs.declared.cmp.Ordering.TheVariants.{Less}
@@ -83,14 +83,3 @@ abbrev pub IsProbed : List ℕ → ℕ → ℕ → ℕ → Type 0
 IsProbed part from x n =
     Disjoint (slice_index part (from + n)) x
     ⊎ ((m : ℕ) → m < n → blocking_prefix x (slice_index part (from + m)) ≢ blocking_prefix x (slice_index part (from + n)))
-
--- the places that are counted as probed are those that are probed
-abbrev pub ProbedPlaces : Type 0
-ProbedPlaces = (part : List ℕ) (from x n : ℕ) → IsTrue (is_probed part from x n) ↔ IsProbed part from x n
-
--- in a part the entries whose first p relations are the same stand together
-abbrev pub PrefixesStandTogether : Type 0
-PrefixesStandTogether =
-    (part : List ℕ) (p i j k : ℕ) → IsPart part → i < j → j < k → k < length part
-    → first_relations p (slice_index part i) ≡ first_relations p (slice_index part k)
-    → first_relations p (slice_index part j) ≡ first_relations p (slice_index part i)
