@@ -1,4 +1,4 @@
-//! A whole run: all pairs of a stream are worked, buffer by buffer.
+//! A whole run: all pairs of a stream are processed, buffer by buffer.
 ghost use Rattle.std.specs.Prelude.{◌≡◌, ◌+◌, ◌*◌, ◌<◌, ◌≤◌, ◌^◌, ◌⊎◌, IsTrue, IfOk, Contains, length};
 ghost use Rattle.dpe_base.specs.declared.pair.Pair.{Pair};
 ghost use Rattle.dpe_base.specs.Queries.{relations};
@@ -28,7 +28,7 @@ use std::thread::Threads;
 pub struct Solved {
     /// The word of each set of relations, at the place of the set's number.
     pub words: Words,
-    /// How many pairs were worked.
+    /// How many pairs were processed.
     pub pairs: u64,
     /// How many buffers had a pair.
     pub buffers: u64,
@@ -37,7 +37,7 @@ pub struct Solved {
 }
 
 /// An engine before its run: it has all memory that the run needs. Contracts see its query, the pairs that will be
-/// worked, how many of them a buffer holds, and how many workers there are.
+/// processed, how many of them a buffer holds, and how many workers there are.
 #[derive(Drop)]
 pub struct Engine<M: CostModel> {
     shared: Shared<M>,
@@ -104,11 +104,10 @@ impl<M: CostModel> Engine<M> {
     /// An engine for the pairs that the stream has left. The stream is only named: no pair is taken from it. Each pair
     /// is a csg-cmp-pair of the query, and stands after the pairs that build its sides.
     ///
-    /// `buffer` is how many pairs are taken at once, 1 to `BUFFER_MAX`, and `workers` how many seats work a group, 1 to
-    /// `WORKERS_MAX`.
-    /// It takes all memory that `run` needs: the memo's word and the rows of each set, two buffers, and a seat for each
-    /// worker. Where there is not as much, it is an `AllocError`. The buffers have no more room than the pairs of so few
-    /// relations can fill.
+    /// `buffer` is how many pairs are taken at once, 1 to `BUFFER_MAX`, and `workers` how many workers share a group, 1 to
+    /// `WORKERS_MAX`. It takes all memory that `run` needs: the memo's word and the rows of each set, two buffers, and a
+    /// seat for each worker. When memory runs out it is an `AllocError`. The buffers have no more room than the pairs of so
+    /// few relations can fill.
     pub fn prepare<P: PairStream>(
         alloc: Global,
         query: &Query,
@@ -153,19 +152,19 @@ impl<M: CostModel> Engine<M> {
         })
     }
 
-    /// Works all pairs of the stream, and hands the stream back.
+    /// Processes all pairs of the stream, and hands the stream back.
     ///
     /// It reorders the pairs by what they depend on, after Han and Lee, "Dependency-Aware Reordering for Parallelizing
     /// Query Optimization in Multi-Core CPUs", SIGMOD 2009. An enumerator gives the pairs that build a side before each
-    /// pair that uses it, but often just before, so neighbours can't be worked at once. The pairs of a buffer are
+    /// pair that uses it, but often just before, so neighbours can't be processed at once. The pairs of a buffer are
     /// therefore taken by groups: those of one size of union, by ascending size. No pair of a group builds a side of
-    /// another, and all that builds its sides was worked in an earlier buffer or a smaller group. Each group that has a
+    /// another, and all that builds its sides was processed in an earlier buffer or a smaller group. Each group that has a
     /// pair is one round of all workers.
     ///
-    /// While a full buffer is worked the next one is filled in a thread of its own; but one worker would only wait for the
-    /// thread to start, so it is filled before that work in the calling thread. After a fill that took less than a buffer
-    /// holds none follows. The workers of a round go in threads of their own where the group is large enough to pay for
-    /// them, or is the first of a run that fills a buffer of 32 pairs or more, and else one after the other in the calling
+    /// While a full buffer is processed the next one is filled in a thread of its own; but one worker would only wait for
+    /// the thread to start, so with one worker it is filled first, in the calling thread. After a fill that took less than
+    /// a buffer holds none follows. The workers of a round have threads of their own when the group has 16,384 pairs or
+    /// more, or is the first of a run that fills a buffer of 32 pairs or more; otherwise they take turns in the calling
     /// thread.
     ///
     /// The gate is told of each buffer before it is filled, and of each draw. It takes no memory.

@@ -35,13 +35,13 @@ fn work_pair<M: CostModel>(
     memo.offer(seat, union, word);
 }
 
-// How many tickets a worker draws before it works their pairs.
+// How many tickets a worker draws before it processes their pairs.
 const BURST: usize = 16;
 
-/// Draws tickets until one is past the pairs, and works the pair of each other one. The pair at place k has the ticket
+/// Draws tickets until one is past the pairs, and processes the pair of each other one. The pair at place k has the ticket
 /// `base` + k. The gate is told of each draw, right after it.
 ///
-/// For each pair worked the seat then has a bound of the union that is at most the pair's least word, unless that is
+/// For each pair processed the seat then has a bound of the union that is at most the pair's least word, unless that is
 /// `EMPTY`. It takes no memory.
 pub fn work<M: CostModel, G: Gate>(
     memo: &Memo<M>,
