@@ -2,6 +2,7 @@
 ghost use Rattle.std.specs.Prelude.{◌≡◌};
 ghost use Rattle.plan_report.specs.Names.{operator_name, enumerator_name};
 
+use cost_model::{HASH, MERGE, OPS};
 use dpe_base::Kind;
 
 /// The name of an operator, by the model's number and its own.
@@ -9,9 +10,9 @@ pub fn operator_name(kind: u8, op: u8) -> &'static str
     ensures { result.now ≡ operator_name kind op }
 {
     match (kind, op) {
-        (0, 0) => "hash",
-        (0, 1) => "merge",
-        (0, _) => "loop",
+        (OPS, HASH) => "hash",
+        (OPS, MERGE) => "merge",
+        (OPS, _) => "loop",
         _ => "join",
     }
 }

@@ -2,7 +2,7 @@ ghost use Rattle.std.specs.Prelude.{◌≡◌, ◌<◌, length, IfOk, OnOk};
 ghost use Rattle.plan_report.specs.Reports.{format_of};
 
 use super::*;
-use cost_model::{CostModel, Cout, Ops};
+use cost_model::{CostModel, Cout, LEAF, Ops};
 use dpe_base::{EMPTY, Kind, Name, Pred, Query, Rel, RelSet, SPAN};
 use join_graph::Graph;
 use join_tree::Tree;
@@ -174,7 +174,7 @@ fn the_plan_of_one_relation_is_its_scan(rt: HostRuntime) -> Result<(), Fail> {
         alloc,
         &query,
         &Ops,
-        &[EMPTY, 3 * SPAN + 1],
+        &[EMPTY, LEAF as u64 * SPAN + 1],
         RelSet::single(0),
     )?;
     let mut report = Report::new(alloc, Format::Text);
