@@ -1,5 +1,9 @@
-use super::{DpSub, Parts, collect_pairs};
-use dpe_base::{Pred, Query, Rel};
+ghost use Rattle.std.specs.Prelude.{◌≡◌, ℕ, Bool, ◌==◌};
+ghost use Rattle.dpe_base.specs.declared.pair.Pair.{Pair};
+ghost use Rattle.dpe_base.specs.Sets.{size};
+
+use super::{DpSub, Filtered, PairTest, Parts, collect_pairs};
+use dpe_base::{Pair, Pred, Query, Rel};
 use join_graph::Graph;
 use std::alloc::Global;
 use std::test::Fail;
@@ -67,6 +71,34 @@ fn chain_of_three(rt: HostRuntime) -> Result<(), Fail> {
         found.as_slice(),
         [(1, 2), (2, 4), (1, 6), (3, 4)].as_slice()
     );
+    Ok(())
+}
+
+// The pairs whose first side has so many relations.
+#[derive(Drop)]
+struct FirstOf {
+    size: u32,
+}
+
+impl PairTest for FirstOf {
+    ghost passes = { λ s p. size p.a == s.size };
+
+    fn passes(&self, p: &Pair) -> bool {
+        p.a.len() == self.size
+    }
+}
+
+#[test]
+fn the_pairs_that_pass_a_test(rt: HostRuntime) -> Result<(), Fail> {
+    let g = graph(rt.alloc(), 4, Shape::Chain)?;
+    let all = DpSub::over(&g);
+    let mut few = Filtered::over(all, FirstOf { size: 2 });
+    let pairs = collect_pairs(rt.alloc(), &mut few)?;
+    let mut found = Vec::new(rt.alloc());
+    for p in pairs.iter() {
+        found.push((p.a.bits(), p.b.bits()))?;
+    }
+    assert_eq!(rt; found.as_slice(), [(3, 4), (6, 8), (3, 12)].as_slice());
     Ok(())
 }
 
