@@ -15,7 +15,7 @@ none_at : {A : Type 0} (k : ℕ) (x : A) → slice_get {X = A} [] k ≡ Some x �
 none_at zero x e = cc
 none_at (suc k) x e = cc
 
-err_same : {X : Type 0} (x y : QueryRefusal) → ◌≡◌ {A = Result X QueryRefusal} (Err x) (Err y) → x ≡ y
+pub err_same : {X : Type 0} (x y : QueryRefusal) → ◌≡◌ {A = Result X QueryRefusal} (Err x) (Err y) → x ≡ y
 err_same x y e = cc
 
 step : (at k : ℕ) → at + 1 + k ≡ at + suc k
@@ -39,7 +39,7 @@ at_once : {A B : Type 0} (f : ℕ → A → Result B QueryRefusal) (at : ℕ) (x
 at_once f at x xs why e =
     record { refused = (x, refl, subst (λ n. f n x ≡ Err why) (omega arith) e); first = λ i z lt. absurd (omega (arith, lt)) }
 
-rest_refused : {B : Type 0} (y : B) (said : Result (List B) QueryRefusal) (why : QueryRefusal) → (said >>= λ ys. Ok (y ∷ ys)) ≡ Err why → said ≡ Err why
+pub rest_refused : {B : Type 0} (y : B) (said : Result (List B) QueryRefusal) (why : QueryRefusal) → (said >>= λ ys. Ok (y ∷ ys)) ≡ Err why → said ≡ Err why
 rest_refused y (Ok ys) why e = absurd cc
 rest_refused y (Err x) why e = ap Err (err_same x why e)
 
@@ -103,7 +103,7 @@ counted_from f xs why k h =
       first = λ i x lt is. let w = h.first i x lt is in (w.0, subst (λ n. f n x ≡ Ok w.0) (sym (from_zero i)) w.1);
     }
 
-least : {A B : Type 0} (f : ℕ → A → Result B QueryRefusal) (xs : List A) (why : QueryRefusal) → (all_of f 0 xs ≡ Err why) ↔ ((k : ℕ) × IsFirstRefused f xs why k)
+pub least : {A B : Type 0} (f : ℕ → A → Result B QueryRefusal) (xs : List A) (why : QueryRefusal) → (all_of f 0 xs ≡ Err why) ↔ ((k : ℕ) × IsFirstRefused f xs why k)
 least f xs why = (
   λ e. let h = all_found f 0 xs why e in (h.0, counted f xs why h.0 h.1),
   λ h. all_said f 0 xs why h.0 (counted_from f xs why h.0 h.1),

@@ -1,5 +1,6 @@
 pub mod Binds
 pub mod Finds
+pub mod FirstPasses
 pub mod Firsts
 pub mod JsonLaws
 pub mod Keys

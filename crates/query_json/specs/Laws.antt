@@ -1,6 +1,6 @@
 -- What holds of each query of a file, what its first unreached relation is in the walks of its join graph, which name is the
 -- first that stands twice, and that each pass over a query refuses its least place.
-use Rattle.std.specs.Prelude.{ℕ, ◌≡◌, ◌↔◌, ◌<◌, List, All, None, Some, Ok, Err, Bool, true, false, map, take, slice_get, Result}
+use Rattle.std.specs.Prelude.{ℕ, [], ◌∷◌, ◌≡◌, ◌↔◌, ◌<◌, List, All, None, Some, Ok, Err, Bool, true, false, map, take, slice_get, Result}
 use Rattle.std.specs.List.{list_any}
 use Rattle.std.specs.Str.{bytes_eq}
 use Rattle.query_json.specs.declared.fault.FileFault.TheVariants.{DuplicateTable}
@@ -14,7 +14,7 @@ use Rattle.dpe_base.specs.Sets.{full}
 use Rattle.join_graph.specs.Graphs.{Connected, IsFirstUnreached, graph_of}
 use Rattle.query_json.specs.declared.entry.Entry.{Entry}
 use Rattle.query_json.specs.Entries.{entries_of, table_names}
-use Rattle.query_json.specs.Queries.{aliases_of, all_of, apart, checked, each_of, ends_of, most_distinct, pred_of, rel_of, table_of}
+use Rattle.query_json.specs.Queries.{aliases_of, all_of, apart, checked, each_of, ends_of, most_distinct, pred_of, query_of, rel_of, sized, table_of}
 use Rattle.query_json.specs.Sound.{IsEntrySound}
 use Rattle.query_json.specs.Unreached.{first_unreached}
 
@@ -64,3 +64,28 @@ pub record RefusesTheLeastPlace (tables : List Table) (q : QueryItem) (why : Que
 
 abbrev pub PassesRefuseTheLeastPlace : Type 0
 PassesRefuseTheLeastPlace = (tables : List Table) (q : QueryItem) (why : QueryRefusal) → RefusesTheLeastPlace tables q why
+
+-- whether a pass refuses, whatever it finds
+abbrev pub done : {A : Type 0} → Result A QueryRefusal → Result (Unit {0}) QueryRefusal
+done (Ok x) = Ok tt
+done (Err why) = Err why
+
+-- the passes over a query in their order: the number of its relations, aliases that stand twice, tables, the ends of joins, their
+-- columns, joins of a relation with itself, filters and selectivities
+abbrev pub passes : List Table → QueryItem → List (Result (Unit {0}) QueryRefusal)
+passes tables q =
+    done (sized q.relations)
+    ∷ done (aliases_of q.relations)
+    ∷ done (each_of (table_of tables) q.relations)
+    ∷ done (each_of (ends_of q.relations) q.joins)
+    ∷ done (each_of (most_distinct tables q.relations) q.joins)
+    ∷ done (checked apart q.joins)
+    ∷ done (all_of (rel_of tables) 0 q.relations)
+    ∷ done (all_of (pred_of tables q.relations) 0 q.joins)
+    ∷ []
+
+-- a query is refused for what the first pass that refuses it gives
+abbrev pub TheFirstPassDecides : Type 0
+TheFirstPassDecides =
+    (tables : List Table) (q : QueryItem) (why : QueryRefusal)
+    → (query_of tables q ≡ Err why) ↔ ((k : ℕ) × IsFirstRefused (λ at (pass : Result (Unit {0}) QueryRefusal). pass) (passes tables q) why k)

@@ -1,5 +1,5 @@
 //! Laws on what a file means.
-ghost use Rattle.query_json.specs.Laws.{AcceptedEntriesAreSound, DuplicateAliasesByPlace, DuplicateTablesByPlace, FirstUnreachedByWalks, PassesRefuseTheLeastPlace};
+ghost use Rattle.query_json.specs.Laws.{AcceptedEntriesAreSound, DuplicateAliasesByPlace, DuplicateTablesByPlace, FirstUnreachedByWalks, PassesRefuseTheLeastPlace, TheFirstPassDecides};
 
 /// The relation for which a query is refused as not connected is the least that no walk from relation 0 reaches, and
 /// there is none exactly where the query is connected.
@@ -22,8 +22,13 @@ pub fn duplicate_aliases_by_place()
     ensures { DuplicateAliasesByPlace }
 {}
 
-/// Each pass over the relations or the joins of a query refuses exactly what its least refused member is refused for. The
-/// order of the passes is that of the lines of `query_of`.
+/// A query is refused for what the first of eight passes gives that refuses it. What none of them refuses is refused where
+/// it is not connected ([`unreached_by_walks`]).
+pub fn the_first_pass_decides()
+    ensures { TheFirstPassDecides }
+{}
+
+/// Each pass over the relations or the joins of a query refuses exactly what its least refused member is refused for.
 pub fn passes_refuse_the_least_place()
     ensures { PassesRefuseTheLeastPlace }
 {}
