@@ -3,3 +3,4 @@ pub mod Reporting
 pub mod Sums
 pub mod OneSample
 pub mod OneReport
+pub mod Modes

@@ -7,12 +7,16 @@ use Rattle.query_json.specs.declared.entry.Entry.{Entry}
 use Rattle.query_json.specs.Entries.{entries_of}
 use Rattle.cost_model.specs.declared.model.ModelKind.{ModelKind}
 use Rattle.dpe_words.specs.declared.choices.Mode.{Mode}
-use Rattle.dpe_words.specs.declared.choices.Mode.TheVariants.{Sample}
+use Rattle.dpe_words.specs.declared.choices.Mode.TheVariants.{Plan, Sample, Migrate, Certify, Check, Narrow, Zigzag, Leftdeep, Reopt}
 use Rattle.dpe_words.specs.declared.choices.Settings.{Settings}
 use Rattle.dpe_words.specs.Line.{settings_of}
 use Rattle.dpe_words.specs.Usage.{usage_line}
 use Rattle.dpe_top.specs.declared.status.Status.{Status}
-use Rattle.dpe_top.specs.declared.status.Status.TheVariants.{Done, SomeRefused, Usage, Input, ReadFault, WriteFault, NoMemory}
+use Rattle.dpe_top.specs.declared.status.Status.TheVariants as status
+use Rattle.dpe_top.specs.declared.status.Outcome.{Outcome}
+use Rattle.dpe_top.specs.declared.status.Outcome.TheVariants.{Done, SomeRefused, Usage, Input}
+use Rattle.dpe_top.specs.declared.status.Failure.{Failure}
+use Rattle.dpe_top.specs.declared.status.Failure.TheVariants.{ReadFault, NoMemory}
 use Rattle.dpe_top.specs.Lines.{fault_line, too_long_line}
 use Rattle.dpe_top.specs.Reports.{IsReport, has_refused, kind_of}
 use Rattle.dpe_top.specs.Summary.{IsSample}
@@ -21,7 +25,7 @@ use Rattle.dpe_top.specs.Summary.{IsSample}
 pub data Answer : Type 0 where
   report : Settings → List Entry → Answer
   summary : ModelKind → ℕ → Answer
-  line : Status → List ℕ → Answer
+  line : Outcome → List ℕ → Answer
 
 abbrev pub answer_of_file : Settings → Result (List Entry) FileFault → Answer
 answer_of_file settings (Ok entries) = report settings entries
@@ -40,10 +44,21 @@ pub data Task : Type 0 where
   at_once : Answer → Task
   workload : Settings → Task
 
+-- No words name a mode that isn't built.
+abbrev pub not_built : Task
+not_built = at_once (line Usage usage_line)
+
 -- a sample comes from its number alone
 abbrev pub task_in : Mode → Settings → Task
+task_in Plan settings = workload settings
 task_in Sample settings = at_once (summary settings.model settings.number)
-task_in mode settings = workload settings
+task_in Migrate settings = not_built
+task_in Certify settings = not_built
+task_in Check settings = not_built
+task_in Narrow settings = not_built
+task_in Zigzag settings = not_built
+task_in Leftdeep settings = not_built
+task_in Reopt settings = not_built
 
 abbrev pub task_of : Option Settings → Task
 task_of None = at_once (line Usage usage_line)
@@ -72,55 +87,51 @@ abbrev pub Reads : Task → Type 0
 Reads (at_once said) = ⊥
 Reads (workload settings) = Unit {0}
 
-abbrev pub status_of : Answer → Status
-status_of (report settings entries) = if has_refused entries then SomeRefused else Done
-status_of (summary model number) = Done
-status_of (line status text) = status
+abbrev pub outcome_of : Answer → Outcome
+outcome_of (report settings entries) = if has_refused entries then SomeRefused else Done
+outcome_of (summary model number) = Done
+outcome_of (line outcome text) = outcome
+
+-- the status with which a whole answer is written
+abbrev pub status_of : Outcome → Status
+status_of Done = status.Done
+status_of SomeRefused = status.SomeRefused
+status_of Usage = status.Usage
+status_of Input = status.Input
 
 -- the text is the whole of the answer
 abbrev pub IsText : Answer → List ℕ → Type 0
 IsText (report settings entries) text = IsReport settings entries text
 IsText (summary model number) text = IsSample (kind_of model) number text
-IsText (line status said) text = text ≡ said
+IsText (line outcome said) text = text ≡ said
 
 -- the status is that of the answer, whose text was appended
 pub record IsAnswered (said : Answer) (result : Status) (before now : Option (List ℕ)) : Type 0 where
-  pub status : result ≡ status_of said
+  pub status : result ≡ status_of (outcome_of said)
   pub text : (text : List ℕ) × IsText said text × Appends before now text
 
 -- a status with which the whole answer is written
 abbrev pub IsWhole : Status → Type 0
-IsWhole Done = Unit {0}
-IsWhole SomeRefused = Unit {0}
-IsWhole Usage = Unit {0}
-IsWhole Input = Unit {0}
-IsWhole ReadFault = ⊥
-IsWhole WriteFault = ⊥
-IsWhole NoMemory = ⊥
+IsWhole status.Done = Unit {0}
+IsWhole status.SomeRefused = Unit {0}
+IsWhole status.Usage = Unit {0}
+IsWhole status.Input = Unit {0}
+IsWhole status.ReadFault = ⊥
+IsWhole status.WriteFault = ⊥
+IsWhole status.NoMemory = ⊥
 
 -- a status with which a report is written
 abbrev pub IsReported : Status → Type 0
-IsReported Done = Unit {0}
-IsReported SomeRefused = Unit {0}
-IsReported Usage = ⊥
-IsReported Input = ⊥
-IsReported ReadFault = ⊥
-IsReported WriteFault = ⊥
-IsReported NoMemory = ⊥
+IsReported result = (result ≡ status.Done) ⊎ (result ≡ status.SomeRefused)
 
 -- no more bytes than the limit were taken
 abbrev pub IsWithin : ℕ → Option (List ℕ) → Option (List ℕ) → Type 0
 IsWithin limit before now = (taken : List ℕ) × Consumes before now taken × (length taken ≤ limit)
 
--- an end without a whole answer, by the source's count of faults, whether it was sure, and its bytes: a fault of reading
--- has its cause, and want of memory is free but hides no fault
-abbrev pub MayEnd : Status → ℕ → ℕ → Bool → Option (List ℕ) → Option (List ℕ) → Type 0
-MayEnd Done was is sure before now = ⊥
-MayEnd SomeRefused was is sure before now = ⊥
-MayEnd Usage was is sure before now = ⊥
-MayEnd Input was is sure before now = ⊥
+-- an end without a whole answer, by the source's count of faults, whether it is infallible, and its bytes: a fault of
+-- reading has its cause, and running out of memory hides no fault
+abbrev pub MayEnd : Failure → ℕ → ℕ → Bool → Option (List ℕ) → Option (List ℕ) → Type 0
 MayEnd ReadFault was is sure before now = Rose was is × (sure ≡ false) × IsWithin most_bytes before now
-MayEnd WriteFault was is sure before now = ⊥
 MayEnd NoMemory was is sure before now = (is ≡ was) × IsWithin (most_bytes + 1) before now
 
 -- bytes were taken: all that there were, and no more than the limit
@@ -131,15 +142,16 @@ IsRead limit before now = IsAtEnd now × IsWithin limit before now
 abbrev pub IsTooLong : ℕ → Option (List ℕ) → Option (List ℕ) → Type 0
 IsTooLong limit before now = (taken : List ℕ) × Consumes before now taken × (length taken ≡ limit + 1)
 
--- what an answer of this status took from the source, where the words are a command line
-abbrev pub Took : Status → Option (List ℕ) → Option (List ℕ) → Type 0
+-- what an answer with this outcome took from the source, where the words ask for a workload
+abbrev pub Took : Outcome → Option (List ℕ) → Option (List ℕ) → Type 0
 Took Done before now = IsRead most_bytes before now
 Took SomeRefused before now = IsRead most_bytes before now
 Took Usage before now = ⊥
 Took Input before now = IsRead most_bytes before now ⊎ IsTooLong most_bytes before now
-Took ReadFault before now = ⊥
-Took WriteFault before now = ⊥
-Took NoMemory before now = ⊥
+
+-- bytes were taken of which P holds
+abbrev pub SomeTaken : Option (List ℕ) → Option (List ℕ) → (List ℕ → Type 0) → Type 0
+SomeTaken before now P = (taken : List ℕ) × Consumes before now taken × P taken
 
 -- the words ask for a workload, and the bytes are one
 pub record IsWellFormed (words : List (List ℕ)) (bytes : List ℕ) : Type 0 where

@@ -3,16 +3,19 @@ ghost use Rattle.std.specs.Prelude.{◌≡◌, ◌+◌, ◌<◌, ◌≤◌, ◌�
 ghost use Rattle.std.specs.Io.KnownBytes.{Appends, Keeps};
 ghost use Rattle.io_edge.specs.Causes.{Rose};
 ghost use Rattle.dpe_words.specs.Line.{AreInRange, IsLine, texts_of};
+ghost use Rattle.dpe_words.specs.Usage.{usage_line};
 ghost use Rattle.dpe_top.specs.declared.status.Status.{Status};
+ghost use Rattle.dpe_top.specs.declared.status.Outcome.{Outcome};
+ghost use Rattle.dpe_top.specs.declared.status.Failure.{Failure};
 ghost use Rattle.dpe_top.specs.Replies.{Replies};
-ghost use Rattle.dpe_top.specs.Reply.{AtOnce, IsAnswered, IsReported, IsText, IsWellFormed, IsWhole, IsWithin, MayEnd, Reads, Took, answer, answer_of_bytes, most_bytes, status_of, summary, task};
+ghost use Rattle.dpe_top.specs.Reply.{AtOnce, IsAnswered, IsReported, IsText, IsWellFormed, IsWhole, IsWithin, MayEnd, Reads, SomeTaken, Took, answer, answer_of_bytes, line, most_bytes, outcome_of, status_of, summary, task};
 
 use crate::INPUT_MAX;
 use crate::lines::{fault_line, too_long_line};
 use crate::planning::Planning;
 use crate::reply::Reply;
 use crate::report::has_refused;
-use crate::status::Status;
+use crate::status::{Failure, Outcome, Status};
 use dpe_words::{Mode, WordFault, settings, usage_line};
 use io_edge::{ReadEnd, Sink, Source, read_all, write_all};
 use planner::Gate;
@@ -28,21 +31,20 @@ fn reply_to_bytes<R: Threads + Sync, G: Gate>(
     requires ranges { AreInRange planning.now.settings.now }
     requires short { length bytes.now ≤ most_bytes }
     ensures said { IfOk result (Replies (answer_of_bytes planning.now.settings.now bytes.now)) }
-    ensures whole { IfOk result (λ r. IsWhole r.status) }
 {
     let alloc = planning.alloc;
     match query_json::read(alloc, bytes) {
         Ok(workload) => Ok(Reply {
-            status: if has_refused(&workload) {
-                Status::SomeRefused
+            outcome: if has_refused(&workload) {
+                Outcome::SomeRefused
             } else {
-                Status::Done
+                Outcome::Done
             },
             text: planning.report(&workload)?,
         }),
         Err(FileFault::NoMemory) => Err(AllocError),
         Err(fault) => Ok(Reply {
-            status: Status::Input,
+            outcome: Outcome::Input,
             text: fault_line(alloc, &fault)?.into_bytes(),
         }),
     }
@@ -52,11 +54,11 @@ fn reply_to_bytes<R: Threads + Sync, G: Gate>(
 fn read_reply<R: Threads + Sync, S: Source, G: Gate>(
     planning: &Planning<G, R>,
     source: &mut S,
-) -> Result<Reply, Status>
+) -> Result<Reply, Failure>
     requires ranges { AreInRange planning.now.settings.now }
     ensures said { IfOk result (λ r. IfSome (S.left source.old) (λ bytes. Replies (answer_of_bytes planning.now.settings.now bytes) r)) }
-    ensures whole { IfOk result (λ r. IsWhole r.status) }
-    ensures took { IfOk result (λ r. Took r.status (S.left source.old) (S.left source.new)) }
+    ensures took { IfOk result (λ r. Took r.outcome (S.left source.old) (S.left source.new)) }
+    ensures some { IfOk result (λ r. SomeTaken (S.left source.old) (S.left source.new) (λ bytes. Replies (answer_of_bytes planning.now.settings.now bytes) r)) }
     ensures kept { IfOk result (λ _. S.faults source.new ≡ S.faults source.old) }
     ensures err { IfErr result (λ e. MayEnd e (S.faults source.old) (S.faults source.new) (S.sure source.old) (S.left source.old) (S.left source.new)) }
 {
@@ -64,11 +66,11 @@ fn read_reply<R: Threads + Sync, S: Source, G: Gate>(
     match read_all(alloc, source, INPUT_MAX) {
         Ok(bytes) => Ok(reply_to_bytes(planning, &bytes)?),
         Err(ReadEnd::TooLong) => Ok(Reply {
-            status: Status::Input,
+            outcome: Outcome::Input,
             text: too_long_line().as_bytes().to_vec(alloc)?,
         }),
-        Err(ReadEnd::Fault) => Err(Status::ReadFault),
-        Err(ReadEnd::NoMemory) => Err(Status::NoMemory),
+        Err(ReadEnd::Fault) => Err(Failure::ReadFault),
+        Err(ReadEnd::NoMemory) => Err(Failure::NoMemory),
     }
 }
 
@@ -76,11 +78,21 @@ fn read_reply<R: Threads + Sync, S: Source, G: Gate>(
 fn summary_reply<R: Threads + Sync, G: Gate>(planning: &Planning<G, R>) -> Result<Reply, AllocError>
     requires ranges { AreInRange planning.now.settings.now }
     ensures said { IfOk result (Replies (summary planning.now.settings.now.model planning.now.settings.now.number)) }
-    ensures done { IfOk result (λ r. r.status ≡ Status.Done) }
+    ensures done { IfOk result (λ r. r.outcome ≡ Outcome.Done) }
 {
     Ok(Reply {
-        status: Status::Done,
+        outcome: Outcome::Done,
         text: planning.sample()?,
+    })
+}
+
+/// The line that says how the program is called.
+fn usage_reply(alloc: Global) -> Result<Reply, AllocError>
+    ensures { IfOk result (Replies (line Outcome.Usage usage_line)) }
+{
+    Ok(Reply {
+        outcome: Outcome::Usage,
+        text: usage_line().as_bytes().to_vec(alloc)?,
     })
 }
 
@@ -92,16 +104,16 @@ fn reply_to<R: Threads + Sync, S: Source, G: Gate>(
     words: &[String],
     source: &mut S,
     gate: &G,
-) -> Result<Reply, Status>
+) -> Result<Reply, Failure>
     ensures said { IfOk result (λ r. IfSome (S.left source.old) (λ bytes. Replies (answer (texts_of words.now) bytes) r)) }
-    ensures whole { IfOk result (λ r. IsWhole r.status) }
     ensures unread { AtOnce (task (texts_of words.now)) (λ said. (source.new ≡ source.old) × IfOk result (Replies said)) }
-    ensures read { Reads (task (texts_of words.now)) → IfOk result (λ r. Took r.status (S.left source.old) (S.left source.new)) }
+    ensures read { Reads (task (texts_of words.now)) → IfOk result (λ r. Took r.outcome (S.left source.old) (S.left source.new)) }
+    ensures some { Reads (task (texts_of words.now)) → IfOk result (λ r. SomeTaken (S.left source.old) (S.left source.new) (λ bytes. Replies (answer (texts_of words.now) bytes) r)) }
     ensures kept { IfOk result (λ _. S.faults source.new ≡ S.faults source.old) }
     ensures err { IfErr result (λ e. MayEnd e (S.faults source.old) (S.faults source.new) (S.sure source.old) (S.left source.old) (S.left source.new)) }
-    ensures usage { IfOk result (λ r. r.status ≡ Status.Usage → IsLine (texts_of words.now) → ⊥) }
-    ensures fault { result ≡ Err Status.ReadFault → Reads (task (texts_of words.now)) }
-    ensures complete { IfOk result (λ r. IfSome (S.left source.old) (λ bytes. IsWellFormed (texts_of words.now) bytes → IsReported r.status)) }
+    ensures usage { IfOk result (λ r. status_of r.outcome ≡ Status.Usage → IsLine (texts_of words.now) → ⊥) }
+    ensures fault { result ≡ Err Failure.ReadFault → Reads (task (texts_of words.now)) }
+    ensures complete { IfOk result (λ r. IfSome (S.left source.old) (λ bytes. IsWellFormed (texts_of words.now) bytes → IsReported (status_of r.outcome))) }
 {
     match settings(alloc, words) {
         Ok(settings) => {
@@ -112,15 +124,20 @@ fn reply_to<R: Threads + Sync, S: Source, G: Gate>(
                 gate,
             };
             match settings.mode {
+                Mode::Plan => read_reply(&planning, source),
                 Mode::Sample => Ok(summary_reply(&planning)?),
-                _ => read_reply(&planning, source),
+                // No words name these yet.
+                Mode::Migrate
+                | Mode::Certify
+                | Mode::Check
+                | Mode::Narrow
+                | Mode::Zigzag
+                | Mode::Leftdeep
+                | Mode::Reopt => unreachable!(),
             }
         }
-        Err(WordFault::Usage) => Ok(Reply {
-            status: Status::Usage,
-            text: usage_line().as_bytes().to_vec(alloc)?,
-        }),
-        Err(WordFault::NoMemory) => Err(Status::NoMemory),
+        Err(WordFault::Usage) => Ok(usage_reply(alloc)?),
+        Err(WordFault::NoMemory) => Err(Failure::NoMemory),
     }
 }
 
@@ -140,10 +157,15 @@ pub fn dpe<R: Threads + Sync, S: Source, K: Sink, G: Gate>(
     ensures whole { IsWhole result → IfSome (S.left source.old) (λ bytes.
         IsAnswered (answer (texts_of words.now) bytes) result (K.held sink.old) (K.held sink.new)) }
 
+    // Where it doesn't, the same holds of some bytes, those that were taken from it.
+    ensures some { Reads (task (texts_of words.now)) → IsWhole result → SomeTaken (S.left source.old) (S.left source.new) (λ bytes.
+        IsAnswered (answer (texts_of words.now) bytes) result (K.held sink.old) (K.held sink.new)) }
+
     // The words alone decide whether the source is read.
     ensures unread { AtOnce (task (texts_of words.now)) (λ said. (source.new ≡ source.old)
         × (IsWhole result → IsAnswered said result (K.held sink.old) (K.held sink.new))) }
-    ensures read { Reads (task (texts_of words.now)) → IsWhole result → Took result (S.left source.old) (S.left source.new) }
+    ensures read { Reads (task (texts_of words.now)) → IsWhole result → (outcome : Outcome) × (result ≡ status_of outcome)
+        × Took outcome (S.left source.old) (S.left source.new) }
 
     // Each other answer has its cause.
     ensures usage { result ≡ Status.Usage → IsLine (texts_of words.now) → ⊥ }
@@ -155,8 +177,8 @@ pub fn dpe<R: Threads + Sync, S: Source, K: Sink, G: Gate>(
         × IfSome (S.left source.old) (λ bytes. IsText (answer (texts_of words.now) bytes) text)
         × (K.sure sink.old < length text)
         × ((n : ℕ) × (n < length text) × Appends (K.held sink.old) (K.held sink.new) (take n text))) }
-    ensures unwritten { result ≡ Status.WriteFault → Reads (task (texts_of words.now)) → (unwritten : Status) × IsWhole unwritten
-        × IfSome (S.left source.old) (λ bytes. unwritten ≡ status_of (answer (texts_of words.now) bytes))
+    ensures unwritten { result ≡ Status.WriteFault → Reads (task (texts_of words.now)) → (unwritten : Outcome)
+        × IfSome (S.left source.old) (λ bytes. unwritten ≡ outcome_of (answer (texts_of words.now) bytes))
         × Took unwritten (S.left source.old) (S.left source.new) }
     ensures memory { result ≡ Status.NoMemory → IsWithin (most_bytes + 1) (S.left source.old) (S.left source.new)
         × Keeps (K.held sink.old) (K.held sink.new) }
@@ -176,10 +198,11 @@ pub fn dpe<R: Threads + Sync, S: Source, K: Sink, G: Gate>(
 {
     let reply = match reply_to(rt, alloc, words, source, gate) {
         Ok(reply) => reply,
-        Err(status) => return status,
+        Err(Failure::ReadFault) => return Status::ReadFault,
+        Err(Failure::NoMemory) => return Status::NoMemory,
     };
     match write_all(sink, reply.text.as_slice()) {
-        Ok(()) => reply.status,
+        Ok(()) => reply.outcome.status(),
         Err(_) => Status::WriteFault,
     }
 }

@@ -1,8 +1,8 @@
-use crate::status::Status;
+use crate::status::Outcome;
 
 /// A whole answer, before any of it is written.
 #[derive(Drop)]
 pub struct Reply {
-    pub status: Status,
+    pub outcome: Outcome,
     pub text: Vec<u8>,
 }

@@ -1,5 +1,6 @@
 ghost use Rattle.std.specs.Prelude.{◌≡◌};
-ghost use Rattle.dpe_top.specs.declared.status.Status.TheVariants.{NoMemory};
+ghost use Rattle.dpe_top.specs.declared.status.Failure.TheVariants.{NoMemory};
+ghost use Rattle.dpe_top.specs.Reply.{IsWhole, status_of};
 ghost use Rattle.dpe_top.specs.Statuses.{number_of};
 
 use std::alloc::AllocError;
@@ -32,10 +33,47 @@ impl Status {
     }
 }
 
-impl From<AllocError> for Status {
+/// How an answer that is made whole ends, once it is written.
+#[derive(Clone, Copy, Debug, PartialEq, Eq)]
+pub enum Outcome {
+    /// Every query is planned.
+    Done,
+    /// Some query is refused.
+    SomeRefused,
+    /// The words are no command line.
+    Usage,
+    /// The bytes are no workload.
+    Input,
+}
+
+impl Outcome {
+    /// The status, once the whole answer is written.
+    pub fn status(self) -> Status
+        ensures value { result ≡ status_of self }
+        ensures whole { IsWhole result }
+    {
+        match self {
+            Outcome::Done => Status::Done,
+            Outcome::SomeRefused => Status::SomeRefused,
+            Outcome::Usage => Status::Usage,
+            Outcome::Input => Status::Input,
+        }
+    }
+}
+
+/// Why no answer was made.
+#[derive(Clone, Copy, Debug, PartialEq, Eq)]
+pub enum Failure {
+    /// The source failed.
+    ReadFault,
+    /// Memory ran out.
+    NoMemory,
+}
+
+impl From<AllocError> for Failure {
     ghost from_gives = { λ _ e. e ≡ NoMemory };
 
     fn from(_: AllocError) -> Self {
-        Status::NoMemory
+        Failure::NoMemory
     }
 }
