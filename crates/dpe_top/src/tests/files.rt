@@ -75,18 +75,18 @@ fn numbered(alloc: Global, number: u32) -> Result<String, AllocError> {
 pub fn numbered_file(
     alloc: Global,
     name: &str,
-    count: u8,
+    count: u32,
     rows: u64,
     joins: &[(u8, u8)],
 ) -> Result<String, AllocError> {
     let mut file = String::from_str(alloc, "{\"tables\":[")?;
     for i in 0..count {
-        let table = numbered(alloc, i as u32)?;
+        let table = numbered(alloc, i)?;
         write_table(&mut file, table.as_str(), rows)?;
     }
     write_query(&mut file, name)?;
     for i in 0..count {
-        let alias = numbered(alloc, i as u32)?;
+        let alias = numbered(alloc, i)?;
         write_relation(&mut file, alias.as_str())?;
     }
     file.push_str("],\"joins\":[")?;

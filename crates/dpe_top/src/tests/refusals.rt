@@ -2,6 +2,7 @@ use super::files::{crowded_file, numbered_file};
 use super::plans::FIRST;
 use super::{answer, run};
 use crate::{INPUT_MAX, OpenGate, Status};
+use dpe_base::N_MAX;
 use io_edge::{MemSink, MemSource};
 use std::test::Fail;
 
@@ -17,7 +18,7 @@ fn refused_queries_are_named(rt: HostRuntime) -> Result<(), Fail> {
     let alloc = rt.alloc();
     let twice = "{\"tables\":[{\"name\":\"a\",\"rows\":1}],\"queries\":[{\"name\":\"twice\",\
 \"relations\":[{\"alias\":\"a\",\"table\":\"a\"},{\"alias\":\"a\",\"table\":\"a\"},{\"alias\":\"b\",\"table\":\"x\"}]}]}";
-    let big = numbered_file(alloc, "big", 17, 1, &[])?;
+    let big = numbered_file(alloc, "big", N_MAX as u32 + 1, 1, &[])?;
     let cases: [(&[&str], &str, &str); 4] = [
         (
             &[],
@@ -33,7 +34,7 @@ fn refused_queries_are_named(rt: HostRuntime) -> Result<(), Fail> {
         (
             &[],
             big.as_str(),
-            "query big\nrefused 2: 17 relations, at most 16\n",
+            "query big\nrefused 2: 21 relations, at most 20\n",
         ),
     ];
     for (words, file, text) in cases {

@@ -1,7 +1,8 @@
 //! The largest workloads: a dense query, and the most entries.
-use super::files::numbered_file;
+use super::files::{crowded_file, numbered_file};
 use super::run;
 use crate::{OpenGate, Status};
+use dpe_base::PREDS_MAX;
 use io_edge::{MemSink, MemSource};
 use std::alloc::{AllocError, Global};
 use std::test::Fail;
@@ -84,5 +85,42 @@ fn each_of_the_most_queries_has_its_entry(rt: HostRuntime) -> Result<(), Fail> {
         assert_eq!(rt; status, Status::Done, "{words:?}");
         assert_eq!(rt; written.as_slice(), report.as_bytes(), "{words:?}");
     }
+    Ok(())
+}
+
+const ONE_SCAN: &str = "query q\ncost 0 rows 1 pairs 0\nscan a rows 1\n";
+
+// The sink takes the whole report in its first call, and would fail at the next one.
+#[test]
+fn the_most_tables_and_queries_are_written_in_one_call(rt: HostRuntime) -> Result<(), Fail> {
+    let alloc = rt.alloc();
+    let file = crowded_file(alloc, 4096, MOST)?;
+    let source = MemSource::new(file.into_bytes(), 4096, Vec::new(alloc));
+    let fails: [u64; 1] = [1];
+    let sink = MemSink::new(alloc, 65_536, 65_536, fails.to_vec(alloc)?)?;
+    let (status, written) = run(&rt, alloc, &[], source, sink, &OpenGate)?;
+    let mut report = String::new(alloc);
+    for _ in 0..MOST {
+        report.push_str(ONE_SCAN)?;
+    }
+    assert_eq!(rt; status, Status::Done);
+    assert_eq!(rt; written.as_slice(), report.as_bytes());
+    Ok(())
+}
+
+#[test]
+fn a_query_of_the_most_joins_is_planned(rt: HostRuntime) -> Result<(), Fail> {
+    let alloc = rt.alloc();
+    let mut joins = Vec::new(alloc);
+    for _ in 0..PREDS_MAX {
+        joins.push((0, 1))?;
+    }
+    let file = numbered_file(alloc, "many", 2, 1, joins.as_slice())?;
+    let (status, written) = long_answer(&rt, alloc, &[], file)?;
+    assert_eq!(rt; status, Status::Done);
+    assert_eq!(rt;
+        written.as_slice(),
+        "query many\ncost 2 rows 1 pairs 1\nloop rows 1 cost 2\n  scan r0 rows 1\n  scan r1 rows 1\n".as_bytes()
+    );
     Ok(())
 }
