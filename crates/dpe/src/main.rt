@@ -1,11 +1,22 @@
 //! Answers the words of the command line over standard input, on standard output.
 #![tactic(auto)]
 
+ghost use Rattle.std.specs.Prelude.{◌≡◌};
+ghost use Rattle.std.specs.Process.{exit_status};
+ghost use Rattle.dpe_top.specs.Statuses.{number_of};
+
 use dpe_top::{OpenGate, Status, dpe, usage_line};
 use io_edge::{StdSink, StdSource, write_all};
 use std::env;
 use std::io::ErrorKind;
 use std::process::ExitCode;
+
+/// What the process ends with: the number of the status.
+fn exit_code(status: Status) -> ExitCode
+    ensures { exit_status result ≡ number_of status }
+{
+    ExitCode::from(status.number())
+}
 
 fn main(rt: HostRuntime) -> ExitCode {
     let alloc = rt.alloc();
@@ -14,7 +25,7 @@ fn main(rt: HostRuntime) -> ExitCode {
     let mut words = match env::args(&rt) {
         Ok(words) => words,
         Err(error) if error.kind() == ErrorKind::OutOfMemory => {
-            return ExitCode::from(Status::NoMemory.number());
+            return exit_code(Status::NoMemory);
         }
         // Words that are no text are no command line.
         Err(_) => {
@@ -22,12 +33,12 @@ fn main(rt: HostRuntime) -> ExitCode {
                 Ok(()) => Status::Usage,
                 Err(_) => Status::WriteFault,
             };
-            return ExitCode::from(status.number());
+            return exit_code(status);
         }
     };
     let _program = words.next();
     let Ok(words) = words.collect::<Vec<String>>(alloc) else {
-        return ExitCode::from(Status::NoMemory.number());
+        return exit_code(Status::NoMemory);
     };
     let status = dpe(
         &rt,
@@ -37,5 +48,5 @@ fn main(rt: HostRuntime) -> ExitCode {
         &mut sink,
         &OpenGate,
     );
-    ExitCode::from(status.number())
+    exit_code(status)
 }
