@@ -1,5 +1,5 @@
 -- The seats of the crew are joined, the last first.
-use Rattle.std.proofs.Common.{◌≡◌, ℕ, ◌+◌, ◌<◌, ◌⊎◌, List, [], ◌∷◌, ◌++◌, All, Contains, length, refl, ap, ◌∙◌, sym, subst, arith, length-append, sum_by, inl, inr, ⊎_elim}
+use Rattle.std.proofs.Common.{◌≡◌, ℕ, ◌<◌, ◌⊎◌, List, [], ◌∷◌, ◌++◌, All, Contains, length, refl, ap, ◌∙◌, sym, subst, arith, length-append, sum_by, inl, inr, ⊎_elim}
 use Rattle.std.proofs.lemmas.List.Sums.{sum_by_push}
 use Rattle.std.proofs.Math.Seq.{take-append_seam}
 use Rattle.std.proofs.lemmas.List.Elements.{All-contains, All-take, Contains-push, Contains-push_cases, Contains-append_left, Contains-append_right}

@@ -1,5 +1,5 @@
 -- What a round does to the main seat.
-use Rattle.std.specs.Prelude.{◌≡◌, ℕ, ◌+◌, ◌*◌, ◌≤◌, ◌<◌, ◌⊎◌, [], List, length, All, Contains, slice_index_or, sum_by}
+use Rattle.std.specs.Prelude.{◌≡◌, ℕ, ◌+◌, ◌*◌, ◌≤◌, ◌<◌, [], List, length, All, Contains, slice_index_or, sum_by}
 use Rattle.dpe_base.specs.declared.pair.Pair.{Pair}
 use Rattle.dpe_base.specs.declared.TheConstants.{WEIGHT, WORKERS_MAX}
 use Rattle.memo_table.specs.Seats.{MemoTable, SeatView, IsSeatOf, BoundsAreMade}

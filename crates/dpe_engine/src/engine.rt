@@ -8,6 +8,7 @@ ghost use Rattle.reorder_buffer.specs.Groups.{runs, rounds};
 ghost use Rattle.dpe_engine.specs.Engines.{AreLeastWords, EnginePlan, IsSolved};
 ghost use Rattle.dpe_engine.specs.Between.{plan_of, HasEnded};
 
+use crate::alone;
 use crate::consumer::Consumer;
 use crate::gate::Gate;
 use crate::pipeline::{exchange, work_all};
@@ -193,6 +194,33 @@ impl<M: CostModel> Engine<M> {
         let producer = Producer { stream, next }.fill(gate, 0);
         let (producer, consumer) = exchange(producer, consumer);
         let (producer, consumer) = work_all(rt, &shared, gate, producer, consumer);
+        let Producer { stream, next: _ } = producer;
+        (finish(shared, consumer), stream)
+    }
+
+    /// Does the same in the calling thread alone, and starts no thread: each buffer is filled before the last one is
+    /// processed, and the workers of a group take turns. It is for a caller that has no runtime, or has other work for its
+    /// threads; the numbers and the words are those of `run`.
+    pub fn run_alone<P: PairStream, G: Gate>(self, stream: P, gate: &G) -> (Solved, P)
+        requires named { P.left stream ≡ self.pairs }
+        ensures size { length result.0.words.row ≡ 2 ^ relations self.query }
+        ensures words { AreLeastWords M.KIND self.query self.pairs result.0.words.row }
+        ensures pairs { result.0.pairs ≡ length self.pairs }
+        ensures drawn { result.0.words.drawn ≡ result.0.pairs + self.workers * result.0.rounds }
+        ensures buffers { result.0.buffers ≡ length (runs self.buffer self.pairs) }
+        ensures rounds { result.0.rounds ≡ rounds self.buffer self.pairs }
+        ensures ended { IsTrue (P.ended result.1) }
+        ensures total { P.total result.1 ≡ P.total stream }
+    {
+        let Engine {
+            shared,
+            consumer,
+            next,
+            buffer: _,
+        } = self;
+        let producer = Producer { stream, next }.fill(gate, 0);
+        let (producer, consumer) = exchange(producer, consumer);
+        let (producer, consumer) = alone::work_all(&shared, gate, producer, consumer);
         let Producer { stream, next: _ } = producer;
         (finish(shared, consumer), stream)
     }

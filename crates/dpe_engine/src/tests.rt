@@ -1,3 +1,4 @@
+mod alone_runs;
 mod fixtures;
 mod observers;
 mod rounds;

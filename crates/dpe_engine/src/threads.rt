@@ -1,5 +1,6 @@
 //! Which work goes to threads of its own. What is decided about threads is decided here.
-ghost use Rattle.std.specs.Prelude.{◌≤◌};
+ghost use Rattle.std.specs.Prelude.{◌<◌, ◌≤◌, ℕ, length, slice_index_or};
+ghost use Rattle.std.specs.Fork.{AcceptsAt, ChangesAt};
 
 use reorder_buffer::Buffer;
 use std::thread::{Threads, join};
@@ -47,4 +48,21 @@ pub(crate) fn both<R: Threads, A: Send, B, F: FnOnce() -> A + Send, H: FnOnce() 
     let one = first();
     let other = second();
     (one, other)
+}
+
+fn at_one<T, F: Fn(usize, &mut T)>(f: &F, i: usize, it: &mut T)
+    requires { AcceptsAt F.Fn f.now i it.old }
+    ensures { ChangesAt F.Fn f.now i it.old it.new }
+{
+    f(i, it);
+}
+
+/// Calls f(i, &mut s[i]) at each place, one after the other, in the calling thread.
+pub(crate) fn in_turn<T, F: Fn(usize, &mut T)>(s: &mut [T], f: &F)
+    requires { (k : ℕ) (d : T) → k < length s.old → AcceptsAt F.Fn f.now k (slice_index_or s.old k d) }
+    ensures { (k : ℕ) (d : T) → k < length s.old → ChangesAt F.Fn f.now k (slice_index_or s.old k d) (slice_index_or s.new k d) }
+{
+    'places: for k in 0..s.len() {
+        at_one(f, k, &mut s[k]);
+    }
 }

@@ -1,5 +1,5 @@
 //! What the tests share: queries of a shape, runs over them, and gates that watch a run.
-ghost use Rattle.std.specs.Prelude.{◌≤◌};
+ghost use Rattle.std.specs.Prelude.{◌≡◌, ◌≤◌, IfOk};
 ghost use Rattle.join_graph.specs.Graphs.{graph_of};
 ghost use Rattle.pair_stream.specs.Orders.{Complete, Ordered};
 
@@ -99,6 +99,23 @@ pub const CHAIN_OF_FOUR: [u64; 16] = [
 
 // ---- runs
 
+// An engine for all pairs of the query.
+fn engine_over<P: PairStream>(
+    alloc: Global,
+    query: &Query,
+    buffer: u32,
+    workers: u32,
+    stream: &P,
+) -> Result<Engine<Ops>, AllocError>
+    requires buffer { (1 ≤ buffer) × (buffer ≤ BUFFER_MAX) }
+    requires workers { (1 ≤ workers) × (workers ≤ WORKERS_MAX) }
+    requires complete { Complete (graph_of query.now) (P.left stream.now) }
+    requires ordered { Ordered (P.left stream.now) }
+    ensures { IfOk result (λ e. e.pairs ≡ P.left stream.now) }
+{
+    Engine::<Ops>::prepare(alloc, query, Ops, buffer, workers, stream)
+}
+
 // An engine processes all pairs of the query.
 fn solve<P: PairStream, G: Gate, R: Threads + Sync>(
     rt: &R,
@@ -114,7 +131,7 @@ fn solve<P: PairStream, G: Gate, R: Threads + Sync>(
     requires complete { Complete (graph_of query.now) (P.left stream) }
     requires ordered { Ordered (P.left stream) }
 {
-    let engine = Engine::<Ops>::prepare(alloc, query, Ops, buffer, workers, &stream)?;
+    let engine = engine_over(alloc, query, buffer, workers, &stream)?;
     let (solved, _) = engine.run(rt, stream, gate);
     Ok(solved)
 }
@@ -133,6 +150,23 @@ pub fn solve_by_dpccp<G: Gate, R: Threads + Sync>(
 {
     let stream = DpCcp::over(&Graph::of(query));
     solve(rt, alloc, query, buffer, workers, stream, gate)
+}
+
+/// A run over the stream of DPccp that starts no thread.
+pub fn solve_alone_by_dpccp<G: Gate>(
+    alloc: Global,
+    query: &Query,
+    buffer: u32,
+    workers: u32,
+    gate: &G,
+) -> Result<Solved, AllocError>
+    requires buffer { (1 ≤ buffer) × (buffer ≤ BUFFER_MAX) }
+    requires workers { (1 ≤ workers) × (workers ≤ WORKERS_MAX) }
+{
+    let stream = DpCcp::over(&Graph::of(query));
+    let engine = engine_over(alloc, query, buffer, workers, &stream)?;
+    let (solved, _) = engine.run_alone(stream, gate);
+    Ok(solved)
 }
 
 /// A run over the stream of DPsize.
@@ -344,4 +378,43 @@ impl Gate for Tally {
             draws.store(self.draws.load(Ordering::SeqCst), Ordering::SeqCst);
         }
     }
+}
+
+/// Whether the workers take turns: each draws after the one before it is done, and the first after the last.
+#[derive(Drop)]
+pub struct Rota {
+    workers: u64,
+    last: AtomicU64,
+    broken: AtomicBool,
+}
+
+impl Rota {
+    /// Of so many workers.
+    pub fn of(workers: u32) -> Rota {
+        Rota {
+            workers: workers as u64,
+            last: AtomicU64::new(0),
+            broken: AtomicBool::new(false),
+        }
+    }
+
+    /// Whether all took turns, and the last to draw was the last worker.
+    pub fn was_kept(&self) -> bool {
+        self.last.load(Ordering::SeqCst).wrapping_add(1) == self.workers
+            && !self.broken.load(Ordering::SeqCst)
+    }
+}
+
+impl Gate for Rota {
+    fn before(&self, worker: u32, _ticket: u64) {
+        let worker = worker as u64;
+        let last = self.last.swap(worker, Ordering::SeqCst);
+        let next = last.wrapping_add(1);
+        let follows = worker == next || (worker == 0 && next == self.workers);
+        if worker != last && !follows {
+            self.broken.store(true, Ordering::SeqCst);
+        }
+    }
+
+    fn filling(&self, _buffer: u64) {}
 }

@@ -1,4 +1,4 @@
-use Rattle.std.proofs.Common.{rules, arith, ◌≡◌, ◌+◌, ◌++◌, List, take, sym, ◌∙◌, subst}
+use Rattle.std.proofs.Common.{rules, arith, ◌+◌, ◌++◌, List, take, sym, ◌∙◌, subst}
 use Rattle.std.proofs.lemmas.List.{take_at}
 use Rattle.dpe_base.specs.declared.pair.Pair.{Pair}
 use Rattle.memo_table.specs.Seats.{SeatView}

@@ -1,4 +1,4 @@
-use Rattle.std.proofs.Common.{rules, ◌≡◌}
+use Rattle.std.proofs.Common.{rules}
 use Rattle.dpe_engine.proofs.Runs.{begins, run_solved}
 use Rattle.dpe_engine.proofs.engine.Engine.run.Goals as goal
 
