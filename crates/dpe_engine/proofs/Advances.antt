@@ -22,16 +22,16 @@ use Rattle.dpe_engine.proofs.Settles.{built_settled}
 use Rattle.dpe_engine.proofs.Places.{stands_before, split_at, few_in_all, below_has, in_group, below_more, length-below, none_below, all_sizes}
 use Rattle.dpe_engine.proofs.Members.{union_size_is, length_below-le}
 
-pub workable : {M : Type 0} (kind : ℕ) (shared : Shared M) → IsShared shared → IsWorkable kind shared.memo.query shared.memo.pairs
-workable kind shared plan = built_lists_are_workable kind shared.memo.query shared.memo.pairs plan.planned.query plan.builds
+pub workable : {M : Type 0} (model : ℕ) (shared : Shared M) → IsShared shared → IsWorkable model shared.memo.query shared.memo.pairs
+workable model shared plan = built_lists_are_workable model shared.memo.query shared.memo.pairs plan.planned.query plan.builds
 
 pub list_few : {M : Type 0} (shared : Shared M) → IsShared shared → length shared.memo.pairs ≤ 4 ^ N_MAX
 list_few shared plan = few_in_all shared.memo.query shared.memo.pairs plan.planned.query plan.builds plan.ordered.once
 
-module _ {M : Type 0} (kind : ℕ) (shared : Shared M) (done buffer rest : List Pair) (n rounds_done : ℕ) (s : SeatView)
-    (plan : IsShared shared) (is : shared.memo.pairs ≡ done ++ (buffer ++ rest)) (b : IsBetween kind shared (done ++ below n buffer) rounds_done s) where
-  law : IsWorkable kind shared.memo.query shared.memo.pairs
-  law = workable kind shared plan
+module _ {M : Type 0} (model : ℕ) (shared : Shared M) (done buffer rest : List Pair) (n rounds_done : ℕ) (s : SeatView)
+    (plan : IsShared shared) (is : shared.memo.pairs ≡ done ++ (buffer ++ rest)) (b : IsBetween model shared (done ++ below n buffer) rounds_done s) where
+  law : IsWorkable model shared.memo.query shared.memo.pairs
+  law = workable model shared plan
 
   in_list : (p : Pair) → Contains buffer p → Contains shared.memo.pairs p
   in_list p c = let F : List Pair → Type 0 = λ l. Contains l p in subst F (sym is) (Contains-append_right done (buffer ++ rest) p (Contains-append_left buffer rest p c))
@@ -51,14 +51,14 @@ module _ {M : Type 0} (kind : ℕ) (shared : Shared M) (done buffer rest : List 
       (λ (near : Contains at.0 r). Contains-append_right done (below n buffer) r (below_has n buffer r (subst F (sym at.2) (Contains-append_left at.0 (p ∷ at.1) r near)) low))
       (Contains-append_cases done at.0 r (stands_before shared.memo.pairs (done ++ at.0) (at.1 ++ rest) p r plan.ordered (placed p at.0 at.1 at.2) listed builds))
 
-  side : (p : Pair) (t : ℕ) → Contains buffer p → IsBuilt shared.memo.query shared.memo.pairs t → size t < n → ((r : Pair) → union r.a r.b ≡ t → BuildsSide r p) → Settled kind s.view t
+  side : (p : Pair) (t : ℕ) → Contains buffer p → IsBuilt shared.memo.query shared.memo.pairs t → size t < n → ((r : Pair) → union r.a r.b ≡ t → BuildsSide r p) → Settled model s.view t
   side p t c built low builds =
       let q = b.seat.query in
       let all = b.seat.pairs in
       let F : List Pair → Type 0 = λ x. (r : Pair) → Contains x r → Contains shared.memo.pairs r in
       let back : (r : Pair) → Contains s.view.pairs r → Contains shared.memo.pairs r = subst F (sym all) (λ r h. h) in
-      let G : JoinQuery → Type 0 = λ x. (r : ℕ) → r < relations x → Settled kind s.view (single r) in
-      built_settled kind s.view (rw q plan.planned.query) b.made t (rw (q, all) law) (subst G (sym q) b.leaves) (rw (q, all) built)
+      let G : JoinQuery → Type 0 = λ x. (r : ℕ) → r < relations x → Settled model s.view (single r) in
+      built_settled model s.view (rw q plan.planned.query) b.made t (rw (q, all) law) (subst G (sym q) b.leaves) (rw (q, all) built)
       (λ r h over.
       let z = ap size over in let u = union_size_is r in
       rw (q, all) (b.done r (builder_finished p r c (back r h) (builds r over) (omega arith))))
@@ -81,7 +81,7 @@ module _ {M : Type 0} (kind : ℕ) (shared : Shared M) (done buffer rest : List 
       let f = length-append buffer rest in
       let g = list_few shared plan in omega arith
 
-  pub may_work_round : MayWorkRound kind shared.memo shared.workers (group_of n buffer) s
+  pub may_work_round : MayWorkRound model shared.memo shared.workers (group_of n buffer) s
   may_work_round =
       let group : List Pair = group_of n buffer in
       record {
@@ -107,9 +107,9 @@ module _ {M : Type 0} (kind : ℕ) (shared : Shared M) (done buffer rest : List 
       }
 
 -- a round more
-pub after_round : {M : Type 0} (kind : ℕ) (shared : Shared M) (base rounds_done : ℕ) (finished group : List Pair) (s t : SeatView) → IsBetween kind shared finished rounds_done s → HasWorkedRound kind shared.memo base shared.workers group s t → 1 ≤ length group
-    → IsBetween kind shared (finished ++ group) (rounds_done + 1) t
-after_round kind shared base rounds_done finished group s t b w some =
+pub after_round : {M : Type 0} (model : ℕ) (shared : Shared M) (base rounds_done : ℕ) (finished group : List Pair) (s t : SeatView) → IsBetween model shared finished rounds_done s → HasWorkedRound model shared.memo base shared.workers group s t → 1 ≤ length group
+    → IsBetween model shared (finished ++ group) (rounds_done + 1) t
+after_round model shared base rounds_done finished group s t b w some =
     let q : t.view.query ≡ s.view.query = w.seat.query ∙ sym b.seat.query in
     let l : t.view.pairs ≡ s.view.pairs = w.seat.pairs ∙ sym b.seat.pairs in
     let n = length-append finished group in
@@ -119,9 +119,9 @@ after_round kind shared base rounds_done finished group s t b w some =
       seat = w.seat;
       weight = w.weight;
       made = w.made;
-      leaves = λ r h. stays_settled kind s.view t.view (single r) q l w.bounds (b.leaves r h);
+      leaves = λ r h. stays_settled model s.view t.view (single r) q l w.bounds (b.leaves r h);
       done = λ p h. ⊎_elim
-          (λ (old : Contains finished p). more_done kind shared.memo.query shared.memo.pairs s.view.bounds t.view.bounds p w.bounds (b.done p old))
+          (λ (old : Contains finished p). more_done model shared.memo.query shared.memo.pairs s.view.bounds t.view.bounds p w.bounds (b.done p old))
           (λ (new : Contains group p). w.done p new)
           (Contains-append_cases finished group p h);
       tickets = let F : ℕ → Type 0 = λ k. EachOnceBelow k t.view.tickets in
@@ -131,9 +131,9 @@ after_round kind shared base rounds_done finished group s t b w some =
     }
 
 -- the same pairs in another order
-pub between_same : {M : Type 0} (kind : ℕ) (shared : Shared M) (rounds_done : ℕ) (xs ys : List Pair) (s : SeatView) → IsBetween kind shared xs rounds_done s → ((p : Pair) → Contains ys p → Contains xs p) → length ys ≡ length xs
-    → IsBetween kind shared ys rounds_done s
-between_same kind shared rounds_done xs ys s b all same =
+pub between_same : {M : Type 0} (model : ℕ) (shared : Shared M) (rounds_done : ℕ) (xs ys : List Pair) (s : SeatView) → IsBetween model shared xs rounds_done s → ((p : Pair) → Contains ys p → Contains xs p) → length ys ≡ length xs
+    → IsBetween model shared ys rounds_done s
+between_same model shared rounds_done xs ys s b all same =
     record {
       seat = b.seat;
       weight = b.weight;
@@ -156,21 +156,21 @@ one_of n done buffer p c =
     (Contains-append_cases done (below (n + 1) buffer) p c))
 
 -- the group of the next size joins those before it
-pub next_group : {M : Type 0} (kind : ℕ) (shared : Shared M) (rounds_done n : ℕ) (done buffer : List Pair) (s : SeatView) → IsBetween kind shared ((done ++ below n buffer) ++ group_of n buffer) rounds_done s
-    → IsBetween kind shared (done ++ below (n + 1) buffer) rounds_done s
-next_group kind shared rounds_done n done buffer s b =
-    between_same kind shared rounds_done ((done ++ below n buffer) ++ group_of n buffer) (done ++ below (n + 1) buffer) s b (one_of n done buffer)
+pub next_group : {M : Type 0} (model : ℕ) (shared : Shared M) (rounds_done n : ℕ) (done buffer : List Pair) (s : SeatView) → IsBetween model shared ((done ++ below n buffer) ++ group_of n buffer) rounds_done s
+    → IsBetween model shared (done ++ below (n + 1) buffer) rounds_done s
+next_group model shared rounds_done n done buffer s b =
+    between_same model shared rounds_done ((done ++ below n buffer) ++ group_of n buffer) (done ++ below (n + 1) buffer) s b (one_of n done buffer)
     (let a = length-append (done ++ below n buffer) (group_of n buffer) in
     let c = length-append done (below n buffer) in
     let d = length-append done (below (n + 1) buffer) in
     let e = length-below n buffer in omega arith)
 
 -- an empty group is no round
-pub no_round : {M : Type 0} (kind : ℕ) (shared : Shared M) (rounds_done n : ℕ) (done buffer : List Pair) (s : SeatView) → IsBetween kind shared (done ++ below n buffer) rounds_done s → length (group_of n buffer) ≡ 0
-    → IsBetween kind shared (done ++ below (n + 1) buffer) rounds_done s
-no_round kind shared rounds_done n done buffer s b none =
-    next_group kind shared rounds_done n done buffer s
-    (between_same kind shared rounds_done (done ++ below n buffer) ((done ++ below n buffer) ++ group_of n buffer) s b
+pub no_round : {M : Type 0} (model : ℕ) (shared : Shared M) (rounds_done n : ℕ) (done buffer : List Pair) (s : SeatView) → IsBetween model shared (done ++ below n buffer) rounds_done s → length (group_of n buffer) ≡ 0
+    → IsBetween model shared (done ++ below (n + 1) buffer) rounds_done s
+no_round model shared rounds_done n done buffer s b none =
+    next_group model shared rounds_done n done buffer s
+    (between_same model shared rounds_done (done ++ below n buffer) ((done ++ below n buffer) ++ group_of n buffer) s b
     (λ p c. ⊎_elim
     (λ (a : Contains (done ++ below n buffer) p). a)
     (λ (a : Contains (group_of n buffer) p). let h : a.0 < length (group_of n buffer) = a.1 in absurd (omega arith))
@@ -178,23 +178,23 @@ no_round kind shared rounds_done n done buffer s b none =
     (let a = length-append (done ++ below n buffer) (group_of n buffer) in omega arith))
 
 -- all groups of the buffer are the buffer
-pub buffer_done : {M : Type 0} (kind : ℕ) (shared : Shared M) (rounds_done : ℕ) (done buffer rest : List Pair) (s : SeatView) → IsShared shared → shared.memo.pairs ≡ done ++ (buffer ++ rest)
-    → IsBetween kind shared (done ++ below SIZES buffer) rounds_done s → IsBetween kind shared (done ++ buffer) rounds_done s
-buffer_done kind shared rounds_done done buffer rest s plan is b =
+pub buffer_done : {M : Type 0} (model : ℕ) (shared : Shared M) (rounds_done : ℕ) (done buffer rest : List Pair) (s : SeatView) → IsShared shared → shared.memo.pairs ≡ done ++ (buffer ++ rest)
+    → IsBetween model shared (done ++ below SIZES buffer) rounds_done s → IsBetween model shared (done ++ buffer) rounds_done s
+buffer_done model shared rounds_done done buffer rest s plan is b =
     let sized : (p : Pair) → Contains buffer p → union_size p < SIZES = λ p c.
     let F : List Pair → Type 0 = λ l. Contains l p in
     let listed : Contains shared.memo.pairs p = subst F (sym is) (Contains-append_right done (buffer ++ rest) p (Contains-append_left buffer rest p c)) in
-    let low = (workable kind shared plan).sized p listed in
+    let low = (workable model shared plan).sized p listed in
     let u = union_size_is p in omega arith in
     let small : AreSmall buffer = λ k d h. sized (get_or buffer k d) (Contains-get_or buffer k d h) in
-    let F : List Pair → Type 0 = λ l. IsBetween kind shared (done ++ l) rounds_done s in
+    let F : List Pair → Type 0 = λ l. IsBetween model shared (done ++ l) rounds_done s in
     subst F (all_sizes buffer small) b
 
 -- before the first group
-pub begins_buffer : {M : Type 0} (kind : ℕ) (shared : Shared M) (rounds_done : ℕ) (done buffer : List Pair) (s : SeatView) → IsBetween kind shared done rounds_done s → IsBetween kind shared (done ++ below 0 buffer) rounds_done s
-begins_buffer kind shared rounds_done done buffer s b =
+pub begins_buffer : {M : Type 0} (model : ℕ) (shared : Shared M) (rounds_done : ℕ) (done buffer : List Pair) (s : SeatView) → IsBetween model shared done rounds_done s → IsBetween model shared (done ++ below 0 buffer) rounds_done s
+begins_buffer model shared rounds_done done buffer s b =
     let e : done ++ below 0 buffer ≡ done = ap (λ (l : List Pair). done ++ l) (none_below buffer) ∙ append-nil done in
-    let F : List Pair → Type 0 = λ l. IsBetween kind shared l rounds_done s in subst F (sym e) b
+    let F : List Pair → Type 0 = λ l. IsBetween model shared l rounds_done s in subst F (sym e) b
 
 pub none_counted : (rounds_done : ℕ) (buffer : List Pair) → rounds_done ≡ rounds_done + length (groups_below 0 buffer)
 unfolding groups_below

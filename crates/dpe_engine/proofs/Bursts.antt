@@ -18,20 +18,20 @@ use Rattle.dpe_engine.proofs.PairSteps.{stays_settled}
 
 -- A worker on its way: what it has drawn, the places that it has still to work, and whether a number was past the end.
 -- Until then its next number is far enough
-pub record IsWorking (kind base : ℕ) (group : List Pair) (before now : SeatView) (waiting : List ℕ) (over : Bool) : Type 0 where
+pub record IsWorking (model base : ℕ) (group : List Pair) (before now : SeatView) (waiting : List ℕ) (over : Bool) : Type 0 where
   pub tickets : List ℕ
   pub drawn : HasDrawn before now tickets
   pub passed : past (base + length group) tickets ≡ if over then 1 else 0
   pub reached : over ≡ false → (length tickets ≡ 0) ⊎ ((t : ℕ) × Contains now.view.tickets t × (t < base + length group) × (base + length tickets ≤ t + 1))
   pub inside : (k : ℕ) → Contains waiting k → k < length group
   pub done : (k : ℕ) (d : Pair) → k < length group → 0 < times (base + k) tickets
-      → IsDone kind before.view.query before.view.pairs now.view.bounds (get_or group k d) ⊎ Contains waiting k
+      → IsDone model before.view.query before.view.pairs now.view.bounds (get_or group k d) ⊎ Contains waiting k
 
-pub more_done : (kind : ℕ) (q : JoinQuery) (pairs : List Pair) (bs cs : List (ℕ × ℕ)) (p : Pair) → ((b : ℕ × ℕ) → Contains bs b → Contains cs b) → IsDone kind q pairs bs p → IsDone kind q pairs cs p
-more_done kind q pairs bs cs p grow d w l = ⊎_elim (λ e. inl e) (λ (h : IsBounded bs _ w). inr (record { word = h.word; bound = grow (_, h.word) h.bound; most = h.most })) (d w l)
+pub more_done : (model : ℕ) (q : JoinQuery) (pairs : List Pair) (bs cs : List (ℕ × ℕ)) (p : Pair) → ((b : ℕ × ℕ) → Contains bs b → Contains cs b) → IsDone model q pairs bs p → IsDone model q pairs cs p
+more_done model q pairs bs cs p grow d w l = ⊎_elim (λ e. inl e) (λ (h : IsBounded bs _ w). inr (record { word = h.word; bound = grow (_, h.word) h.bound; most = h.most })) (d w l)
 
-pub begins : (kind base : ℕ) (group : List Pair) (before : SeatView) → IsWorking kind base group before before [] false
-begins kind base group before =
+pub begins : (model base : ℕ) (group : List Pair) (before : SeatView) → IsWorking model base group before before [] false
+begins model base group before =
     record {
       tickets = [];
       drawn = record { table = refl; query = refl; pairs = refl; bounds = λ b h. h; floor = refl; weight = refl; tickets = sym (append-nil before.view.tickets); allowance = omega arith };
@@ -69,7 +69,7 @@ drawn_through before mid after first second g w =
       allowance = let a = w.allowance in let b = g.allowance in let l = length-append first second in omega arith;
     }
 
-module _ (kind : ℕ) (memo : MemoTable) (base : ℕ) (group : List Pair) (before now : SeatView) (waiting : List ℕ) (r : IsReady kind memo base group before) (o : IsWorking kind base group before now waiting false) where
+module _ (model : ℕ) (memo : MemoTable) (base : ℕ) (group : List Pair) (before now : SeatView) (waiting : List ℕ) (r : IsReady model memo base group before) (o : IsWorking model base group before now waiting false) where
   pub may_draw : IsSeatOf memo now × (1 ≤ now.view.weight) × (1 ≤ now.view.allowance) × (base ≤ now.view.floor)
   may_draw = let g = o.drawn in (
     record { table = g.table ∙ r.seat.table; query = g.query ∙ r.seat.query; pairs = g.pairs ∙ r.seat.pairs },
@@ -86,11 +86,11 @@ module _ (kind : ℕ) (memo : MemoTable) (base : ℕ) (group : List Pair) (befor
     pub less : mid.view.allowance + 1 ≡ now.view.allowance
     less = let a = ap (λ (v : View). v.allowance) view in let m = may_draw.2 in omega arith
 
-    same_bounds : (p : Pair) → IsDone kind before.view.query before.view.pairs now.view.bounds p → IsDone kind before.view.query before.view.pairs mid.view.bounds p
-    same_bounds p = more_done kind before.view.query before.view.pairs now.view.bounds mid.view.bounds p (λ x y. let F : View → Type 0 = λ v. Contains v.bounds x in subst F (sym view) y)
+    same_bounds : (p : Pair) → IsDone model before.view.query before.view.pairs now.view.bounds p → IsDone model before.view.query before.view.pairs mid.view.bounds p
+    same_bounds p = more_done model before.view.query before.view.pairs now.view.bounds mid.view.bounds p (λ x y. let F : View → Type 0 = λ v. Contains v.bounds x in subst F (sym view) y)
 
     -- a ticket of a pair: its place waits
-    pub draws_in : n - base < length group → IsWorking kind base group before mid (waiting ++ (n - base) ∷ []) false
+    pub draws_in : n - base < length group → IsWorking model base group before mid (waiting ++ (n - base) ∷ []) false
     draws_in low =
         let inside : n < base + length group = let a = may_draw.3 in omega arith in
         record {
@@ -117,7 +117,7 @@ module _ (kind : ℕ) (memo : MemoTable) (base : ℕ) (group : List Pair) (befor
         }
 
     -- a ticket past the pairs: it is the last
-    pub draws_out : length group ≤ n - base → IsWorking kind base group before mid waiting true
+    pub draws_out : length group ≤ n - base → IsWorking model base group before mid waiting true
     draws_out high =
         let outside : base + length group ≤ n = let a = may_draw.3 in omega arith in
         record {
@@ -133,17 +133,17 @@ module _ (kind : ℕ) (memo : MemoTable) (base : ℕ) (group : List Pair) (befor
         }
 
 -- what the work of one pair asks
-pub record MayWork (kind : ℕ) (memo : MemoTable) (p : Pair) (now : SeatView) : Type 0 where
+pub record MayWork (model : ℕ) (memo : MemoTable) (p : Pair) (now : SeatView) : Type 0 where
   pub seat : IsSeatOf memo now
   pub listed : Contains memo.pairs p
-  pub first : Settled kind now.view p.a
-  pub second : Settled kind now.view p.b
+  pub first : Settled model now.view p.a
+  pub second : Settled model now.view p.b
 
-module _ (kind : ℕ) (memo : MemoTable) (base : ℕ) (group : List Pair) (before now : SeatView) (place : ℕ) (rest : List ℕ) (over : Bool) (r : IsReady kind memo base group before) (o : IsWorking kind base group before now (place ∷ rest) over) where
+module _ (model : ℕ) (memo : MemoTable) (base : ℕ) (group : List Pair) (before now : SeatView) (place : ℕ) (rest : List ℕ) (over : Bool) (r : IsReady model memo base group before) (o : IsWorking model base group before now (place ∷ rest) over) where
   pub place_inside : place < length group
   place_inside = o.inside place (Contains-append_left (place ∷ []) rest place (0, omega arith, refl))
 
-  pub may_work : (p : Pair) → p ≡ get_or group place p → MayWork kind memo p now
+  pub may_work : (p : Pair) → p ≡ get_or group place p → MayWork model memo p now
   may_work p is =
       let g = o.drawn in
       let here : Contains group p = (place, place_inside, sym is) in
@@ -151,11 +151,11 @@ module _ (kind : ℕ) (memo : MemoTable) (base : ℕ) (group : List Pair) (befor
       record {
         seat = record { table = g.table ∙ r.seat.table; query = g.query ∙ r.seat.query; pairs = g.pairs ∙ r.seat.pairs };
         listed = rw (← r.seat.pairs) (r.workable.listed p here);
-        first = stays_settled kind before.view now.view p.a g.query g.pairs g.bounds s.0;
-        second = stays_settled kind before.view now.view p.b g.query g.pairs g.bounds s.1;
+        first = stays_settled model before.view now.view p.a g.query g.pairs g.bounds s.0;
+        second = stays_settled model before.view now.view p.b g.query g.pairs g.bounds s.1;
       }
 
-  pub works_on : (after : SeatView) (p : Pair) → p ≡ get_or group place p → HasWorkedPair kind p now after → IsWorking kind base group before after rest over
+  pub works_on : (after : SeatView) (p : Pair) → p ≡ get_or group place p → HasWorkedPair model p now after → IsWorking model base group before after rest over
   works_on after p is w =
       let same_tickets : after.view.tickets ≡ now.view.tickets = w.drawn.tickets ∙ append-nil now.view.tickets in
       record {
@@ -167,10 +167,10 @@ module _ (kind : ℕ) (memo : MemoTable) (base : ℕ) (group : List Pair) (befor
         done = λ k d h has. dite (ℕ_discrete k place)
             (λ (e : k ≡ place).
             let same : p ≡ get_or group k d = is ∙ (ap (λ (i : ℕ). get_or group i p) (sym e) ∙ get_or_default group k p d h) in
-            let F : Pair → Type 0 = IsDone kind before.view.query before.view.pairs after.view.bounds in
+            let F : Pair → Type 0 = IsDone model before.view.query before.view.pairs after.view.bounds in
             inl (subst F same (rw (← o.drawn.query, ← o.drawn.pairs) w.done)))
             (λ (ne : k ≢ place). ⊎_elim
-            (λ was. inl (more_done kind before.view.query before.view.pairs now.view.bounds after.view.bounds (get_or group k d) w.drawn.bounds was))
+            (λ was. inl (more_done model before.view.query before.view.pairs now.view.bounds after.view.bounds (get_or group k d) w.drawn.bounds was))
             (λ (c : Contains (place ∷ rest) k). ⊎_elim (λ (one : Contains (place ∷ []) k). absurd (ne (only place k one))) (λ other. inr other) (Contains-append_cases (place ∷ []) rest k c))
             (o.done k d h has));
       }
@@ -179,8 +179,8 @@ module _ (kind : ℕ) (memo : MemoTable) (base : ℕ) (group : List Pair) (befor
       only x y c = ⊎_elim (λ (n : Contains [] y). let h : n.0 < 0 = n.1 in absurd (omega arith)) (λ e. sym e) (Contains-push_cases [] x y c)
 
 -- nothing waits, and a ticket was past the pairs
-pub ends : (kind base : ℕ) (group : List Pair) (before now : SeatView) → IsWorking kind base group before now [] true → HasWorked kind base group before now
-ends kind base group before now o =
+pub ends : (model base : ℕ) (group : List Pair) (before now : SeatView) → IsWorking model base group before now [] true → HasWorked model base group before now
+ends model base group before now o =
     record {
       tickets = o.tickets;
       drawn = o.drawn;
@@ -190,11 +190,11 @@ ends kind base group before now o =
 
 -- ---- the places from the i-th on
 
-pub works_at : (kind base : ℕ) (group : List Pair) (before now : SeatView) (places seen : List ℕ) (i : ℕ) (over : Bool) → IsWorking kind base group before now (drop i places) over → seen ≡ places → i < length places
-    → IsWorking kind base group before now (get_or seen i 0 ∷ drop (i + 1) places) over
-works_at kind base group before now places seen i over o is h =
-    let F : List ℕ → Type 0 = λ l. IsWorking kind base group before now l over in
-    let G : List ℕ → Type 0 = λ l. IsWorking kind base group before now (get_or l i 0 ∷ drop (i + 1) places) over in
+pub works_at : (model base : ℕ) (group : List Pair) (before now : SeatView) (places seen : List ℕ) (i : ℕ) (over : Bool) → IsWorking model base group before now (drop i places) over → seen ≡ places → i < length places
+    → IsWorking model base group before now (get_or seen i 0 ∷ drop (i + 1) places) over
+works_at model base group before now places seen i over o is h =
+    let F : List ℕ → Type 0 = λ l. IsWorking model base group before now l over in
+    let G : List ℕ → Type 0 = λ l. IsWorking model base group before now (get_or l i 0 ∷ drop (i + 1) places) over in
     subst G (sym is) (subst F (drop_more places i 0 h) o)
 
 pub full_some : (n : ℕ) → (n == 16) ≡ true → 1 ≤ n

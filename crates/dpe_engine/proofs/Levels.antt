@@ -36,14 +36,14 @@ no_member [] none = refl
 no_member (x ∷ xs) none = absurd (none x (0, omega arith, refl))
 
 -- no union has fewer than two relations
-pub first_level : {M : Type 0} (kind : ℕ) (shared : Shared M) (s : SeatView) → IsShared shared → IsBetween kind shared [] 0 s → IsBetween kind shared (below 2 shared.memo.pairs) 0 s
-first_level kind shared s plan b =
-    let F : List Pair → Type 0 = λ l. IsBetween kind shared l 0 s in
+pub first_level : {M : Type 0} (model : ℕ) (shared : Shared M) (s : SeatView) → IsShared shared → IsBetween model shared [] 0 s → IsBetween model shared (below 2 shared.memo.pairs) 0 s
+first_level model shared s plan b =
+    let F : List Pair → Type 0 = λ l. IsBetween model shared l 0 s in
     subst F (sym (no_member (below 2 shared.memo.pairs) (λ p c. none p (in_below 2 shared.memo.pairs p c)))) b
   where
     none : (p : Pair) → Contains shared.memo.pairs p × (union_size p < 2) → ⊥
     none p m =
-        let small = (workable kind shared plan).smaller p m.0 in
+        let small = (workable model shared plan).smaller p m.0 in
         let some = connected_size_some (graph_of shared.memo.query) p.a (plan.planned.within p m.0).first in
         let u = union_size_is p in
         omega (arith, small.0, m.1)

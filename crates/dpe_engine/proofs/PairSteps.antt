@@ -45,8 +45,8 @@ pair_of_query q p ok is =
     }
 
 -- a settled set stays settled where bounds are added
-pub stays_settled : (kind : ℕ) (v w : View) (s : ℕ) → w.query ≡ v.query → w.pairs ≡ v.pairs → ((b : ℕ × ℕ) → Contains v.bounds b → Contains w.bounds b) → Settled kind v s → Settled kind w s
-stays_settled kind v w s q p grow settled =
+pub stays_settled : (model : ℕ) (v w : View) (s : ℕ) → w.query ≡ v.query → w.pairs ≡ v.pairs → ((b : ℕ × ℕ) → Contains v.bounds b → Contains w.bounds b) → Settled model v s → Settled model w s
+stays_settled model v w s q p grow settled =
     record { word = settled.word; bound = grow (s, settled.word) settled.bound; least = rw (q, p) settled.least }
 
 -- what an offer leaves
@@ -68,14 +68,14 @@ offering v s w = dite (ℕ_discrete w EMPTY)
     subst F (sym (ne_eqb w EMPTY ne)) record { query = refl; pairs = refl; bounds = contains_tail (s, w) v.bounds; floor = refl; weight = refl; tickets = refl; allowance = refl; known = inr (0, omega arith, refl) })
 
 -- the word of the split, by what the table answered
-pub word_is : (kind : ℕ) (q : JoinQuery) (p : Pair) (wa wb la lb o word : ℕ) → word ≡ least_split_word kind p.a p.b wa wb la lb o → la ≡ rows q p.a → lb ≡ rows q p.b → o ≡ rows q (union p.a p.b) → word ≡ pair_word kind q p wa wb
-word_is kind q p wa wb la lb o word e a b c =
-    e ∙ (ap (λ x. least_split_word kind p.a p.b wa wb x lb o) a ∙ (ap (λ x. least_split_word kind p.a p.b wa wb (rows q p.a) x o) b ∙ ap (λ x. least_split_word kind p.a p.b wa wb (rows q p.a) (rows q p.b) x) c))
+pub word_is : (model : ℕ) (q : JoinQuery) (p : Pair) (wa wb la lb o word : ℕ) → word ≡ least_split_word model p.a p.b wa wb la lb o → la ≡ rows q p.a → lb ≡ rows q p.b → o ≡ rows q (union p.a p.b) → word ≡ pair_word model q p wa wb
+word_is model q p wa wb la lb o word e a b c =
+    e ∙ (ap (λ x. least_split_word model p.a p.b wa wb x lb o) a ∙ (ap (λ x. least_split_word model p.a p.b wa wb (rows q p.a) x o) b ∙ ap (λ x. least_split_word model p.a p.b wa wb (rows q p.a) (rows q p.b) x) c))
 
-pub worked_pair : (kind : ℕ) (p : Pair) (before one two after : SeatView) (wa wb word : ℕ) → one.table ≡ before.table → two.table ≡ one.table → after.table ≡ two.table
+pub worked_pair : (model : ℕ) (p : Pair) (before one two after : SeatView) (wa wb word : ℕ) → one.table ≡ before.table → two.table ≡ one.table → after.table ≡ two.table
     → one.view ≡ with_bound before.view p.a wa → two.view ≡ with_bound one.view p.b wb → after.view ≡ with_offer two.view (union p.a p.b) word
-    → Least kind before.view.query before.view.pairs p.a wa → Least kind before.view.query before.view.pairs p.b wb → word ≡ pair_word kind before.view.query p wa wb → HasWorkedPair kind p before after
-worked_pair kind p before one two after wa wb word t1 t2 t3 v1 v2 v3 la lb is =
+    → Least model before.view.query before.view.pairs p.a wa → Least model before.view.query before.view.pairs p.b wb → word ≡ pair_word model before.view.query p wa wb → HasWorkedPair model p before after
+worked_pair model p before one two after wa wb word t1 t2 t3 v1 v2 v3 la lb is =
     let q : JoinQuery = before.view.query in
     let base : View = with_bound (with_bound before.view p.a wa) p.b wb in
     let at : after.view ≡ with_offer base (union p.a p.b) word = v3 ∙ ap (λ (v : View). with_offer v (union p.a p.b) word) (v2 ∙ ap (λ (v : View). with_bound v p.b wb) v1) in
@@ -93,8 +93,8 @@ worked_pair kind p before one two after wa wb word t1 t2 t3 v1 v2 v3 la lb is =
         allowance = let a = f.allowance in omega arith;
       };
       done = λ w l.
-          let ea = least_word_same kind q before.view.pairs p.a wa l.first la l.least_first in
-          let eb = least_word_same kind q before.view.pairs p.b wb l.second lb l.least_second in
-          let same : word ≡ w = is ∙ (ap (λ (x : ℕ). pair_word kind q p x wb) ea ∙ (ap (λ (x : ℕ). pair_word kind q p l.first x) eb ∙ sym l.is)) in
+          let ea = least_word_same model q before.view.pairs p.a wa l.first la l.least_first in
+          let eb = least_word_same model q before.view.pairs p.b wb l.second lb l.least_second in
+          let same : word ≡ w = is ∙ (ap (λ (x : ℕ). pair_word model q p x wb) ea ∙ (ap (λ (x : ℕ). pair_word model q p l.first x) eb ∙ sym l.is)) in
           ⊎_elim (λ (e : word ≡ EMPTY). inl (sym same ∙ e)) (λ h. inr (record { word = word; bound = h; most = let F : ℕ → Type 0 = λ x. word ≤ x in subst F same (le_refl word) })) f.known;
     }

@@ -12,16 +12,16 @@ use Rattle.dpe_engine.specs.Rounds.{IsWorkerSeat, IsSplit, IsGathered, HaveWorke
 use Rattle.dpe_engine.proofs.Tickets.{past_is, once_in, once_out, sum_fixed, sum_both, some_positive}
 use Rattle.dpe_engine.proofs.Bursts.{more_done}
 
-same_done : (kind : ℕ) (q q' : JoinQuery) (l l' : List Pair) (bs : List (ℕ × ℕ)) (p : Pair) → q ≡ q' → l ≡ l' → IsDone kind q l bs p → IsDone kind q' l' bs p
-same_done kind q q' l l' bs p e f d =
-    let F : JoinQuery → Type 0 = λ x. IsDone kind x l' bs p in let G : List Pair → Type 0 = λ x. IsDone kind q x bs p in subst F e (subst G f d)
+same_done : (model : ℕ) (q q' : JoinQuery) (l l' : List Pair) (bs : List (ℕ × ℕ)) (p : Pair) → q ≡ q' → l ≡ l' → IsDone model q l bs p → IsDone model q' l' bs p
+same_done model q q' l l' bs p e f d =
+    let F : JoinQuery → Type 0 = λ x. IsDone model x l' bs p in let G : List Pair → Type 0 = λ x. IsDone model q x bs p in subst F e (subst G f d)
 
 -- a look at the counter leaves all that a round asks
-pub may_still : (kind : ℕ) (memo : MemoTable) (workers : ℕ) (group : List Pair) (s t : SeatView) → MayWorkRound kind memo workers group s → t.table ≡ s.table → {n : ℕ} → t.view ≡ with_floor s.view n → MayWorkRound kind memo workers group t
-may_still kind memo workers group s t m table {n} view =
-    let F : View → Type 0 = λ v. MayWorkRound kind memo workers group record { table = s.table; view = v } in
-    let G : _ → Type 0 = λ x. MayWorkRound kind memo workers group record { table = x; view = t.view } in
-    let looked_at : MayWorkRound kind memo workers group record { table = s.table; view = with_floor s.view n } =
+pub may_still : (model : ℕ) (memo : MemoTable) (workers : ℕ) (group : List Pair) (s t : SeatView) → MayWorkRound model memo workers group s → t.table ≡ s.table → {n : ℕ} → t.view ≡ with_floor s.view n → MayWorkRound model memo workers group t
+may_still model memo workers group s t m table {n} view =
+    let F : View → Type 0 = λ v. MayWorkRound model memo workers group record { table = s.table; view = v } in
+    let G : _ → Type 0 = λ x. MayWorkRound model memo workers group record { table = x; view = t.view } in
+    let looked_at : MayWorkRound model memo workers group record { table = s.table; view = with_floor s.view n } =
     record {
       some = m.some;
       few = m.few;
@@ -35,8 +35,8 @@ may_still kind memo workers group s t m table {n} view =
     } in
     subst G (sym table) (subst F (sym view) looked_at)
 
-module _ (kind : ℕ) (memo : MemoTable) (base workers : ℕ) (group : List Pair) (first split : SeatView) (crew crew' : List SeatView)
-    (s : IsSplit memo first split crew workers (length group + 1)) (w : HaveWorked kind base group crew crew') where
+module _ (model : ℕ) (memo : MemoTable) (base workers : ℕ) (group : List Pair) (first split : SeatView) (crew crew' : List SeatView)
+    (s : IsSplit memo first split crew workers (length group + 1)) (w : HaveWorked model base group crew crew') where
   size : length crew' ≡ workers
   size = w.size ∙ s.size
 
@@ -79,7 +79,7 @@ module _ (kind : ℕ) (memo : MemoTable) (base workers : ℕ) (group : List Pair
         let o = past_is base first.view.tickets known (base + length group) in omega arith
 
     -- each place below the end was drawn by one worker, whose bounds the main seat took in
-    place_done : (n : ℕ) → EachOnceBelow n gathered.view.tickets → (k : ℕ) (d : Pair) → k < length group → IsDone kind memo.query memo.pairs gathered.view.bounds (get_or group k d)
+    place_done : (n : ℕ) → EachOnceBelow n gathered.view.tickets → (k : ℕ) (d : Pair) → k < length group → IsDone model memo.query memo.pairs gathered.view.bounds (get_or group k d)
     place_done n b k d h =
         let e = ended n b in
         let x : ℕ = base + k in
@@ -96,12 +96,12 @@ module _ (kind : ℕ) (memo : MemoTable) (base workers : ℕ) (group : List Pair
         let r = w.each j split p.0 in
         let drawn : 0 < times x r.tickets = let F : List ℕ → Type 0 = λ l. 0 < times x l in subst F (r.drawn.tickets ∙ ap (λ (l : List ℕ). l ++ r.tickets) p.1.tickets) found.2 in
         let done = r.done k d h drawn in
-        more_done kind memo.query memo.pairs (get_or crew' j split).view.bounds gathered.view.bounds (get_or group k d)
+        more_done model memo.query memo.pairs (get_or crew' j split).view.bounds gathered.view.bounds (get_or group k d)
         (λ u has. g.taken u (record { seat = get_or crew' j split; member = Contains-get_or crew' j split found.1; bound = has }))
-        (same_done kind (get_or crew j split).view.query memo.query (get_or crew j split).view.pairs memo.pairs (get_or crew' j split).view.bounds (get_or group k d) p.1.seat.query p.1.seat.pairs done)
+        (same_done model (get_or crew j split).view.query memo.query (get_or crew j split).view.pairs memo.pairs (get_or crew' j split).view.bounds (get_or group k d) p.1.seat.query p.1.seat.pairs done)
 
     round_done : (last : SeatView) (n : ℕ) → first.view.weight ≡ WEIGHT → (gathered.view.weight ≡ WEIGHT → EachOnceBelow n gathered.view.tickets) → last.table ≡ gathered.table → last.view ≡ with_floor gathered.view n
-        → (before : SeatView) → EachOnceBelow base before.view.tickets → before.view.floor ≤ base → BoundsAreMade kind last.view → first.view.allowance ≡ before.view.allowance → ((b : ℕ × ℕ) → Contains before.view.bounds b → Contains first.view.bounds b) → HasWorkedRound kind memo base workers group before last
+        → (before : SeatView) → EachOnceBelow base before.view.tickets → before.view.floor ≤ base → BoundsAreMade model last.view → first.view.allowance ≡ before.view.allowance → ((b : ℕ × ℕ) → Contains before.view.bounds b → Contains first.view.bounds b) → HasWorkedRound model memo base workers group before last
     round_done last n heavy tells table view before began reached made same grow =
         let b = tells (whole ∙ heavy) in
         let e = ended n b in
@@ -118,8 +118,8 @@ module _ (kind : ℕ) (memo : MemoTable) (base workers : ℕ) (group : List Pair
               let c = g.allowance in let d = g.counted in let h = sum_draws in let i = s.allowance in let j = b.count in let k = known.count in
               let l : length split.view.tickets ≡ length first.view.tickets = ap (λ (l : List ℕ). length l) s.tickets in omega arith;
           done = λ p c.
-              let F : View → Type 0 = λ v. IsDone kind memo.query memo.pairs v.bounds p in
-              let G : Pair → Type 0 = IsDone kind memo.query memo.pairs gathered.view.bounds in
+              let F : View → Type 0 = λ v. IsDone model memo.query memo.pairs v.bounds p in
+              let G : Pair → Type 0 = IsDone model memo.query memo.pairs gathered.view.bounds in
               subst F (sym view) (subst G c.2 (place_done n b c.0 p c.1));
           bounds = λ x h.
               let F : View → Type 0 = λ v. Contains v.bounds x in
@@ -128,8 +128,8 @@ module _ (kind : ℕ) (memo : MemoTable) (base workers : ℕ) (group : List Pair
         }
 
 -- what was opened, worked and gathered is a round
-pub closes : (kind : ℕ) (memo : MemoTable) (base workers : ℕ) (group : List Pair) (before split gathered last : SeatView) (opened crew' : List SeatView) (n : ℕ) → HasOpenedRound kind memo base workers group before split opened → HaveWorked kind base group opened crew'
-    → IsGathered memo split crew' gathered → (gathered.view.weight ≡ WEIGHT → EachOnceBelow n gathered.view.tickets) → last.table ≡ gathered.table → last.view ≡ with_floor gathered.view n → BoundsAreMade kind last.view → HasWorkedRound kind memo base workers group before last
-closes kind memo base workers group before split gathered last opened crew' n o w g tells table view made =
+pub closes : (model : ℕ) (memo : MemoTable) (base workers : ℕ) (group : List Pair) (before split gathered last : SeatView) (opened crew' : List SeatView) (n : ℕ) → HasOpenedRound model memo base workers group before split opened → HaveWorked model base group opened crew'
+    → IsGathered memo split crew' gathered → (gathered.view.weight ≡ WEIGHT → EachOnceBelow n gathered.view.tickets) → last.table ≡ gathered.table → last.view ≡ with_floor gathered.view n → BoundsAreMade model last.view → HasWorkedRound model memo base workers group before last
+closes model memo base workers group before split gathered last opened crew' n o w g tells table view made =
     let known : EachOnceBelow base o.first.view.tickets = rw o.looked o.known in
-    round_done kind memo base workers group o.first split opened crew' o.split w gathered o.some known g last n (rw o.looked o.weight) tells table view before o.known o.reached made (rw o.looked refl) (λ b h. rw o.looked h)
+    round_done model memo base workers group o.first split opened crew' o.split w gathered o.some known g last n (rw o.looked o.weight) tells table view before o.known o.reached made (rw o.looked refl) (λ b h. rw o.looked h)

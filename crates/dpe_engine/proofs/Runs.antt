@@ -67,8 +67,8 @@ same_runs shared room buffer n plan is fits enough =
     enough
 
 -- what a run leaves, told by another room that gives the same runs
-solved_for : (kind room : ℕ) (plan : EnginePlan) (solved : Solved) → runs plan.buffer plan.pairs ≡ runs room plan.pairs → IsSolved kind record { query = plan.query; pairs = plan.pairs; buffer = room; workers = plan.workers } solved → IsSolved kind plan solved
-solved_for kind room plan solved same s =
+solved_for : (model room : ℕ) (plan : EnginePlan) (solved : Solved) → runs plan.buffer plan.pairs ≡ runs room plan.pairs → IsSolved model record { query = plan.query; pairs = plan.pairs; buffer = room; workers = plan.workers } solved → IsSolved model plan solved
+solved_for model room plan solved same s =
     record {
       size = s.size;
       words = s.words;
@@ -78,23 +78,23 @@ solved_for kind room plan solved same s =
       all_rounds = s.all_rounds ∙ sym (ap (λ (l : List (List Pair)). sum_by (λ run. length (groups run)) l) same);
     }
 
-pub run_solved : {M : Type 0} (kind buffer : ℕ) (shared : Shared M) (next : BufferedPairs) (consumer last : Consumer M) (solved : Solved) → IsPrepared kind buffer shared next consumer → last.full.room ≡ next.room → IsSolved kind (plan_of shared last) solved
-    → IsSolved kind record { query = shared.memo.query; pairs = shared.memo.pairs; buffer = buffer; workers = shared.workers } solved
-run_solved kind buffer shared next consumer last solved p room s =
-    solved_for kind last.full.room record { query = shared.memo.query; pairs = shared.memo.pairs; buffer = buffer; workers = shared.workers } solved (p.same_runs ∙ ap (λ (b : ℕ). runs b shared.memo.pairs) (sym room)) s
+pub run_solved : {M : Type 0} (model buffer : ℕ) (shared : Shared M) (next : BufferedPairs) (consumer last : Consumer M) (solved : Solved) → IsPrepared model buffer shared next consumer → last.full.room ≡ next.room → IsSolved model (plan_of shared last) solved
+    → IsSolved model record { query = shared.memo.query; pairs = shared.memo.pairs; buffer = buffer; workers = shared.workers } solved
+run_solved model buffer shared next consumer last solved p room s =
+    solved_for model last.full.room record { query = shared.memo.query; pairs = shared.memo.pairs; buffer = buffer; workers = shared.workers } solved (p.same_runs ∙ ap (λ (b : ℕ). runs b shared.memo.pairs) (sym room)) s
 
 -- the first buffer is filled
-pub begins : {P M : Type 0} (kind buffer : ℕ) (left : P → List Pair) (ended : P → Bool) (shared : Shared M) (before after : Producer P) (consumer : Consumer M)
-    → IsPrepared kind buffer shared before.next consumer → left before.stream ≡ shared.memo.pairs → IsFilled left ended before after
-    → IsRunning kind left ended shared (record after { next = consumer.full }) (record consumer { full = after.next })
-begins kind buffer left ended shared before after consumer p is f =
+pub begins : {P M : Type 0} (model buffer : ℕ) (left : P → List Pair) (ended : P → Bool) (shared : Shared M) (before after : Producer P) (consumer : Consumer M)
+    → IsPrepared model buffer shared before.next consumer → left before.stream ≡ shared.memo.pairs → IsFilled left ended before after
+    → IsRunning model left ended shared (record after { next = consumer.full }) (record consumer { full = after.next })
+begins model buffer left ended shared before after consumer p is f =
     let list : List Pair = shared.memo.pairs in
     let whole : list ≡ after.next.pairs ++ left after.stream = sym is ∙ f.taken in
     let none : take consumer.pairs list ≡ [] = ap (λ (k : ℕ). take k list) p.none.0 in
     let F : List Pair → Type 0 = λ l. list ≡ l ++ (after.next.pairs ++ left after.stream) in
     let at : F (take consumer.pairs list) = subst F (sym none) whole in
-    let G : List Pair → Type 0 = λ l. IsBetween kind shared l consumer.rounds consumer.seat in
-    let H : ℕ → Type 0 = λ k. IsBetween kind shared [] k consumer.seat in
+    let G : List Pair → Type 0 = λ l. IsBetween model shared l consumer.rounds consumer.seat in
+    let H : ℕ → Type 0 = λ k. IsBetween model shared [] k consumer.seat in
     record {
       may = record {
         plan = p.plan;
@@ -113,7 +113,7 @@ begins kind buffer left ended shared before after consumer p is f =
       last = λ h. f.short (let a = f.room in omega arith);
     }
 
-module _ {P M : Type 0} (kind : ℕ) (left : P → List Pair) (ended : P → Bool) (shared : Shared M) (producer : Producer P) (consumer : Consumer M) (r : IsRunning kind left ended shared producer consumer) where
+module _ {P M : Type 0} (model : ℕ) (left : P → List Pair) (ended : P → Bool) (shared : Shared M) (producer : Producer P) (consumer : Consumer M) (r : IsRunning model left ended shared producer consumer) where
   abbrev list : List Pair
   list = shared.memo.pairs
 
@@ -133,15 +133,15 @@ module _ {P M : Type 0} (kind : ℕ) (left : P → List Pair) (ended : P → Boo
       let c = length-append full (left producer.stream) in
       let d = length-take-le consumer.pairs list r.inside in omega arith
 
-  module _ (worked : Consumer M) (w : HasWorkedBuffer kind shared consumer worked) where
+  module _ (worked : Consumer M) (w : HasWorkedBuffer model shared consumer worked) where
     processed : take worked.pairs list ≡ take consumer.pairs list ++ full
     processed = ap (λ (k : ℕ). take k list) w.pairs ∙ more
 
-    between : IsBetween kind shared (take worked.pairs list) worked.rounds worked.seat
-    between = let F : List Pair → Type 0 = λ l. IsBetween kind shared l worked.rounds worked.seat in subst F (sym processed) w.between
+    between : IsBetween model shared (take worked.pairs list) worked.rounds worked.seat
+    between = let F : List Pair → Type 0 = λ l. IsBetween model shared l worked.rounds worked.seat in subst F (sym processed) w.between
 
     pub goes_on : (filled : Producer P) → length full ≡ room → IsFilled left ended producer filled
-        → IsRunning kind left ended shared (record filled { next = worked.full }) (record worked { full = filled.next })
+        → IsRunning model left ended shared (record filled { next = worked.full }) (record worked { full = filled.next })
     goes_on filled whole f =
         let some = r.some_room in
         let same : filled.next.room ≡ room = f.room ∙ r.same_room in
@@ -187,7 +187,7 @@ module _ {P M : Type 0} (kind : ℕ) (left : P → List Pair) (ended : P → Boo
         let c = r.some_room in omega arith
 
     -- the last buffer, which is not full
-    pub ends : length full < room → HasEnded kind shared worked
+    pub ends : length full < room → HasEnded model shared worked
     ends short =
         let l = r.last short in
         let nothing : length (left producer.stream) ≡ 0 = ap (λ (t : List Pair). length t) l.0 in
@@ -203,7 +203,7 @@ module _ {P M : Type 0} (kind : ℕ) (left : P → List Pair) (ended : P → Boo
         let counted_rounds = w.counted in
         record {
           plan = r.may.plan;
-          between = let F : List Pair → Type 0 = λ t. IsBetween kind shared t worked.rounds worked.seat in subst F (ap (λ (k : ℕ). take k list) all ∙ take_all (length list) list (omega arith)) between;
+          between = let F : List Pair → Type 0 = λ t. IsBetween model shared t worked.rounds worked.seat in subst F (ap (λ (k : ℕ). take k list) all ∙ take_all (length list) list (omega arith)) between;
           pairs = all;
           buffers =
               let a = r.buffers_left in

@@ -13,12 +13,12 @@ use Rattle.dpe_engine.specs.Working.{IsBounded, IsDone}
 
 -- each pair of the list with this union is done
 abbrev pub AllDone : ℕ → View → ℕ → Type 0
-AllDone kind v s = (p : Pair) → Contains v.pairs p → union p.a p.b ≡ s → IsDone kind v.query v.pairs v.bounds p
+AllDone model v s = (p : Pair) → Contains v.pairs p → union p.a p.b ≡ s → IsDone model v.query v.pairs v.bounds p
 
-module _ (kind : ℕ) (v : View) (ok : IsQuery v.query) (made : BoundsAreMade kind v) where
-  pub settles : (s : ℕ) → HasBestPair kind v.query v.pairs s → AllDone kind v s → Settled kind v s
+module _ (model : ℕ) (v : View) (ok : IsQuery v.query) (made : BoundsAreMade model v) where
+  pub settles : (s : ℕ) → HasBestPair model v.query v.pairs s → AllDone model v s → Settled model v s
   settles s best done = ⊎_elim
-      (λ (none : best.word ≡ EMPTY). let F : ℕ → Type 0 = Made kind v.query v.pairs s in absurd (empty_never_made kind v.query v.pairs s ok (subst F none best.least.made)))
+      (λ (none : best.word ≡ EMPTY). let F : ℕ → Type 0 = Made model v.query v.pairs s in absurd (empty_never_made model v.query v.pairs s ok (subst F none best.least.made)))
       (λ (found : IsBounded v.bounds (union best.pair.a best.pair.b) best.word).
       let F : ℕ → Type 0 = λ t. Contains v.bounds (t, found.word) in
       let has : Contains v.bounds (s, found.word) = subst F best.over found.bound in
@@ -30,8 +30,8 @@ module _ (kind : ℕ) (v : View) (ok : IsQuery v.query) (made : BoundsAreMade ki
       (done best.pair best.listed best.over best.word best.of_pair)
 
   -- a set that the list builds is settled, where the leaves are and its pairs are done
-  pub built_settled : (s : ℕ) → IsWorkable kind v.query v.pairs → ((r : ℕ) → r < relations v.query → Settled kind v (single r)) → IsBuilt v.query v.pairs s → AllDone kind v s → Settled kind v s
+  pub built_settled : (s : ℕ) → IsWorkable model v.query v.pairs → ((r : ℕ) → r < relations v.query → Settled model v (single r)) → IsBuilt v.query v.pairs s → AllDone model v s → Settled model v s
   built_settled s law leaves built done = ⊎_elim
-      (λ (leaf : (r : ℕ) × (r < relations v.query) × (s ≡ single r)). let F : ℕ → Type 0 = Settled kind v in subst F (sym leaf.2) (leaves leaf.0 leaf.1))
-      (λ (pair : (p : Pair) × Contains v.pairs p × (union p.a p.b ≡ s)). let F : ℕ → Type 0 = HasBestPair kind v.query v.pairs in settles s (subst F pair.2 (law.best_pair pair.0 pair.1)) done)
+      (λ (leaf : (r : ℕ) × (r < relations v.query) × (s ≡ single r)). let F : ℕ → Type 0 = Settled model v in subst F (sym leaf.2) (leaves leaf.0 leaf.1))
+      (λ (pair : (p : Pair) × Contains v.pairs p × (union p.a p.b ≡ s)). let F : ℕ → Type 0 = HasBestPair model v.query v.pairs in settles s (subst F pair.2 (law.best_pair pair.0 pair.1)) done)
       built

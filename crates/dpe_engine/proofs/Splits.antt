@@ -52,24 +52,24 @@ split_more memo before now after part crew i draws s may at pt av pv =
     }
 
 -- pairs that can be worked from one seat can be worked from another that knows as much
-pub stay_workable : (kind : ℕ) (group : List Pair) (s t : SeatView) → t.view.query ≡ s.view.query → t.view.pairs ≡ s.view.pairs → ((b : ℕ × ℕ) → Contains s.view.bounds b → Contains t.view.bounds b) → AreWorkable kind group s → AreWorkable kind group t
-stay_workable kind group s t query pairs grow w =
+pub stay_workable : (model : ℕ) (group : List Pair) (s t : SeatView) → t.view.query ≡ s.view.query → t.view.pairs ≡ s.view.pairs → ((b : ℕ × ℕ) → Contains s.view.bounds b → Contains t.view.bounds b) → AreWorkable model group s → AreWorkable model group t
+stay_workable model group s t query pairs grow w =
     record {
       listed = λ p c. rw pairs (w.listed p c);
-      sides = λ p c. (stays_settled kind s.view t.view p.a query pairs grow (w.sides p c).0, stays_settled kind s.view t.view p.b query pairs grow (w.sides p c).1);
+      sides = λ p c. (stays_settled model s.view t.view p.a query pairs grow (w.sides p c).0, stays_settled model s.view t.view p.b query pairs grow (w.sides p c).1);
     }
 
 -- the crew is ready
-pub crew_ready : (kind : ℕ) (memo : MemoTable) (base workers : ℕ) (group : List Pair) (first split : SeatView) (crew : List SeatView) → MayWorkRound kind memo workers group first → first.view.floor ≡ base
-    → IsSplit memo first split crew workers (length group + 1) → AreReady kind memo base group crew
-crew_ready kind memo base workers group first split crew m floor s = All-weaker (IsWorkerSeat memo first (length group + 1)) (IsReady kind memo base group) one crew s.each
+pub crew_ready : (model : ℕ) (memo : MemoTable) (base workers : ℕ) (group : List Pair) (first split : SeatView) (crew : List SeatView) → MayWorkRound model memo workers group first → first.view.floor ≡ base
+    → IsSplit memo first split crew workers (length group + 1) → AreReady model memo base group crew
+crew_ready model memo base workers group first split crew m floor s = All-weaker (IsWorkerSeat memo first (length group + 1)) (IsReady model memo base group) one crew s.each
   where
-    one : (c : SeatView) → IsWorkerSeat memo first (length group + 1) c → IsReady kind memo base group c
+    one : (c : SeatView) → IsWorkerSeat memo first (length group + 1) c → IsReady model memo base group c
     one c p =
         record {
           seat = p.seat;
           floor = let f = p.floor in omega arith;
           weight = let w = p.weight in omega arith;
           allowance = let a = p.allowance in omega arith;
-          workable = stay_workable kind group first c (p.seat.query ∙ sym m.seat.query) (p.seat.pairs ∙ sym m.seat.pairs) (λ b has. let F : List (ℕ × ℕ) → Type 0 = λ l. Contains l b in subst F (sym p.bounds) has) m.workable;
+          workable = stay_workable model group first c (p.seat.query ∙ sym m.seat.query) (p.seat.pairs ∙ sym m.seat.pairs) (λ b has. let F : List (ℕ × ℕ) → Type 0 = λ l. Contains l b in subst F (sym p.bounds) has) m.workable;
         }

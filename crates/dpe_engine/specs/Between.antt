@@ -35,12 +35,12 @@ pub record IsShared {M : Type 0} (shared : Shared M) : Type 0 where
 
 -- What the main seat knows once these pairs are finished, in any order, by so many rounds. The first `length finished +
 -- workers * rounds_done` tickets are drawn
-pub record IsBetween {M : Type 0} (kind : ℕ) (shared : Shared M) (finished : List Pair) (rounds_done : ℕ) (s : SeatView) : Type 0 where
+pub record IsBetween {M : Type 0} (model : ℕ) (shared : Shared M) (finished : List Pair) (rounds_done : ℕ) (s : SeatView) : Type 0 where
   pub seat : IsSeatOf shared.memo s
   pub weight : s.view.weight ≡ WEIGHT
-  pub made : BoundsAreMade kind s.view
-  pub leaves : (r : ℕ) → r < relations shared.memo.query → Settled kind s.view (single r)
-  pub done : (p : Pair) → Contains finished p → IsDone kind shared.memo.query shared.memo.pairs s.view.bounds p
+  pub made : BoundsAreMade model s.view
+  pub leaves : (r : ℕ) → r < relations shared.memo.query → Settled model s.view (single r)
+  pub done : (p : Pair) → Contains finished p → IsDone model shared.memo.query shared.memo.pairs s.view.bounds p
   pub tickets : EachOnceBelow (length finished + shared.workers * rounds_done) s.view.tickets
   pub allowance : s.view.allowance + length finished + shared.workers * rounds_done ≡ DRAWS
   pub few : rounds_done ≤ length finished
@@ -60,17 +60,17 @@ pub record StandNext (whole done buffer : List Pair) : Type 0 where
   pub is : whole ≡ done ++ (buffer ++ rest)
 
 -- the pairs before the buffer are finished, and so are those of the buffer with unions of fewer than `size` relations
-pub record IsAtGroup {M : Type 0} (kind : ℕ) (shared : Shared M) (size : ℕ) (consumer : Consumer M) : Type 0 where
+pub record IsAtGroup {M : Type 0} (model : ℕ) (shared : Shared M) (size : ℕ) (consumer : Consumer M) : Type 0 where
   pub plan : IsShared shared
   pub next : StandNext shared.memo.pairs (pairs_before shared consumer) consumer.full.pairs
-  pub between : IsBetween kind shared (pairs_before shared consumer ++ below size consumer.full.pairs) consumer.rounds consumer.seat
+  pub between : IsBetween model shared (pairs_before shared consumer ++ below size consumer.full.pairs) consumer.rounds consumer.seat
   pub free : HasFreeCrew shared consumer
 
 -- what is asked to process the buffer
-pub record MayWorkBuffer {M : Type 0} (kind : ℕ) (shared : Shared M) (consumer : Consumer M) : Type 0 where
+pub record MayWorkBuffer {M : Type 0} (model : ℕ) (shared : Shared M) (consumer : Consumer M) : Type 0 where
   pub plan : IsShared shared
   pub next : StandNext shared.memo.pairs (pairs_before shared consumer) consumer.full.pairs
-  pub between : IsBetween kind shared (pairs_before shared consumer) consumer.rounds consumer.seat
+  pub between : IsBetween model shared (pairs_before shared consumer) consumer.rounds consumer.seat
   pub free : HasFreeCrew shared consumer
   pub few : consumer.buffers ≤ length (pairs_before shared consumer)
 
@@ -82,8 +82,8 @@ pub record IsSameBuffer {M : Type 0} (before after : Consumer M) : Type 0 where
   pub buffers : after.buffers ≡ before.buffers
 
 -- the pairs of the buffer are finished, by a round for each group
-pub record HasWorkedBuffer {M : Type 0} (kind : ℕ) (shared : Shared M) (before after : Consumer M) : Type 0 where
-  pub between : IsBetween kind shared (pairs_before shared before ++ before.full.pairs) after.rounds after.seat
+pub record HasWorkedBuffer {M : Type 0} (model : ℕ) (shared : Shared M) (before after : Consumer M) : Type 0 where
+  pub between : IsBetween model shared (pairs_before shared before ++ before.full.pairs) after.rounds after.seat
   pub counted : after.rounds ≡ before.rounds + length (groups before.full.pairs)
   pub pairs : after.pairs ≡ before.pairs + length before.full.pairs
   pub buffers : after.buffers ≡ before.buffers + min (length before.full.pairs) 1
@@ -98,8 +98,8 @@ pub record IsFilled {P : Type 0} (left : P → List Pair) (ended : P → Bool) (
   pub short : length after.next.pairs < before.next.room → (left after.stream ≡ []) × IsTrue (ended after.stream)
 
 -- how far a run is, before the full buffer is processed: what is left gives the buffers and rounds that are still to come
-pub record IsRunning {P M : Type 0} (kind : ℕ) (left : P → List Pair) (ended : P → Bool) (shared : Shared M) (producer : Producer P) (consumer : Consumer M) : Type 0 where
-  pub may : MayWorkBuffer kind shared consumer
+pub record IsRunning {P M : Type 0} (model : ℕ) (left : P → List Pair) (ended : P → Bool) (shared : Shared M) (producer : Producer P) (consumer : Consumer M) : Type 0 where
+  pub may : MayWorkBuffer model shared consumer
   pub whole : shared.memo.pairs ≡ pairs_before shared consumer ++ (consumer.full.pairs ++ left producer.stream)
   pub inside : consumer.pairs ≤ length shared.memo.pairs
   pub buffers_left : consumer.buffers + length (runs consumer.full.room (consumer.full.pairs ++ left producer.stream)) ≡ length (runs consumer.full.room shared.memo.pairs)
@@ -110,18 +110,18 @@ pub record IsRunning {P M : Type 0} (kind : ℕ) (left : P → List Pair) (ended
   pub last : length consumer.full.pairs < consumer.full.room → (left producer.stream ≡ []) × IsTrue (ended producer.stream)
 
 -- all pairs are processed
-pub record HasEnded {M : Type 0} (kind : ℕ) (shared : Shared M) (consumer : Consumer M) : Type 0 where
+pub record HasEnded {M : Type 0} (model : ℕ) (shared : Shared M) (consumer : Consumer M) : Type 0 where
   pub plan : IsShared shared
-  pub between : IsBetween kind shared shared.memo.pairs consumer.rounds consumer.seat
+  pub between : IsBetween model shared shared.memo.pairs consumer.rounds consumer.seat
   pub pairs : consumer.pairs ≡ length shared.memo.pairs
   pub buffers : consumer.buffers ≡ length (runs consumer.full.room shared.memo.pairs)
   pub all_rounds : consumer.rounds ≡ rounds consumer.full.room shared.memo.pairs
 
 -- An engine before its run, of which no pair is processed. Its buffers have the room that was asked for, or give the
 -- same runs
-pub record IsPrepared {M : Type 0} (kind buffer : ℕ) (shared : Shared M) (next : BufferedPairs) (consumer : Consumer M) : Type 0 where
+pub record IsPrepared {M : Type 0} (model buffer : ℕ) (shared : Shared M) (next : BufferedPairs) (consumer : Consumer M) : Type 0 where
   pub plan : IsShared shared
-  pub between : IsBetween kind shared [] 0 consumer.seat
+  pub between : IsBetween model shared [] 0 consumer.seat
   pub some_room : 1 ≤ next.room
   pub same_room : consumer.full.room ≡ next.room
   pub same_runs : runs buffer shared.memo.pairs ≡ runs next.room shared.memo.pairs

@@ -15,19 +15,19 @@ pub record EnginePlan : Type 0 where
   pub workers : ℕ
 
 -- w is the least word of a tree over s that the pairs make, or EMPTY where no tree over s has a word
-pub record IsLeastWord (kind : ℕ) (q : JoinQuery) (pairs : List Pair) (s w : ℕ) : Type 0 where
-  pub least : (v : ℕ) → Made kind q pairs s v → Least kind q pairs s w
-  pub none : ((v : ℕ) → Made kind q pairs s v → ⊥) → w ≡ EMPTY
+pub record IsLeastWord (model : ℕ) (q : JoinQuery) (pairs : List Pair) (s w : ℕ) : Type 0 where
+  pub least : (v : ℕ) → Made model q pairs s v → Least model q pairs s w
+  pub none : ((v : ℕ) → Made model q pairs s v → ⊥) → w ≡ EMPTY
 
 -- each word of the row is the least of its set, or EMPTY
 abbrev pub AreLeastWords : ℕ → JoinQuery → List Pair → List ℕ → Type 0
-AreLeastWords kind q pairs row =
-    (s : ℕ) → s < 2 ^ relations q → IsLeastWord kind q pairs s (slice_index_or row s 0)
+AreLeastWords model q pairs row =
+    (s : ℕ) → s < 2 ^ relations q → IsLeastWord model q pairs s (slice_index_or row s 0)
 
 -- what a run leaves of an engine
-pub record IsSolved (kind : ℕ) (plan : EnginePlan) (solved : Solved) : Type 0 where
+pub record IsSolved (model : ℕ) (plan : EnginePlan) (solved : Solved) : Type 0 where
   pub size : length solved.words.row ≡ 2 ^ relations plan.query
-  pub words : AreLeastWords kind plan.query plan.pairs solved.words.row
+  pub words : AreLeastWords model plan.query plan.pairs solved.words.row
   pub pairs : solved.pairs ≡ length plan.pairs
   pub drawn : solved.words.drawn ≡ solved.pairs + plan.workers * solved.rounds
   pub buffers : solved.buffers ≡ length (runs plan.buffer plan.pairs)

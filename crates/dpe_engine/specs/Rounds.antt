@@ -7,37 +7,37 @@ use Rattle.memo_table.specs.Views.{times, EachOnceBelow, with_floor}
 use Rattle.dpe_engine.specs.Working.{past, IsDone, AreWorkable, IsReady, HasWorked}
 
 -- what a round asks of the main seat
-pub record MayWorkRound (kind : ℕ) (memo : MemoTable) (workers : ℕ) (group : List Pair) (s : SeatView) : Type 0 where
+pub record MayWorkRound (model : ℕ) (memo : MemoTable) (workers : ℕ) (group : List Pair) (s : SeatView) : Type 0 where
   pub some : 1 ≤ workers
   pub few : workers ≤ WORKERS_MAX
   pub seat : IsSeatOf memo s
   pub weight : s.view.weight ≡ WEIGHT
   pub allowance : workers * (length group + 1) ≤ s.view.allowance
-  pub workable : AreWorkable kind group s
+  pub workable : AreWorkable model group s
 
 -- The tickets are the numbers below the base, the pairs and the workers, each once; the counter was seen there; and each
 -- pair is done
-pub record HasWorkedRound (kind : ℕ) (memo : MemoTable) (base workers : ℕ) (group : List Pair) (before after : SeatView) : Type 0 where
+pub record HasWorkedRound (model : ℕ) (memo : MemoTable) (base workers : ℕ) (group : List Pair) (before after : SeatView) : Type 0 where
   pub seat : IsSeatOf memo after
   pub weight : after.view.weight ≡ WEIGHT
   pub began : EachOnceBelow base before.view.tickets
   pub reached : before.view.floor ≤ base
   pub floor : after.view.floor ≡ base + length group + workers
-  pub made : BoundsAreMade kind after.view
+  pub made : BoundsAreMade model after.view
   pub tickets : EachOnceBelow (base + length group + workers) after.view.tickets
   pub allowance : after.view.allowance + length group + workers ≡ before.view.allowance
   pub bounds : (b : ℕ × ℕ) → Contains before.view.bounds b → Contains after.view.bounds b
-  pub done : (p : Pair) → Contains group p → IsDone kind memo.query memo.pairs after.view.bounds p
+  pub done : (p : Pair) → Contains group p → IsDone model memo.query memo.pairs after.view.bounds p
 
 -- ---- the crew
 
 abbrev pub AreReady : ℕ → MemoTable → ℕ → List Pair → List SeatView → Type 0
-AreReady kind memo base group crew = All (IsReady kind memo base group) crew
+AreReady model memo base group crew = All (IsReady model memo base group) crew
 
 -- each seat is what its worker left
-pub record HaveWorked (kind base : ℕ) (group : List Pair) (before after : List SeatView) : Type 0 where
+pub record HaveWorked (model base : ℕ) (group : List Pair) (before after : List SeatView) : Type 0 where
   pub size : length after ≡ length before
-  pub each : (k : ℕ) (d : SeatView) → k < length before → HasWorked kind base group (slice_index_or before k d) (slice_index_or after k d)
+  pub each : (k : ℕ) (d : SeatView) → k < length before → HasWorked model base group (slice_index_or before k d) (slice_index_or after k d)
 
 -- a seat that was split off for a worker
 pub record IsWorkerSeat (memo : MemoTable) (before : SeatView) (draws : ℕ) (s : SeatView) : Type 0 where
@@ -60,7 +60,7 @@ pub record IsSplit (memo : MemoTable) (before after : SeatView) (crew : List Sea
   pub each : All (IsWorkerSeat memo before draws) crew
 
 -- A round is open: the counter was at the base, and each worker has its seat
-pub record HasOpenedRound (kind : ℕ) (memo : MemoTable) (base workers : ℕ) (group : List Pair) (before after : SeatView) (crew : List SeatView) : Type 0 where
+pub record HasOpenedRound (model : ℕ) (memo : MemoTable) (base workers : ℕ) (group : List Pair) (before after : SeatView) (crew : List SeatView) : Type 0 where
   pub first : SeatView
   pub looked : first.view ≡ with_floor before.view base
   pub some : 1 ≤ workers
@@ -68,7 +68,7 @@ pub record HasOpenedRound (kind : ℕ) (memo : MemoTable) (base workers : ℕ) (
   pub known : EachOnceBelow base before.view.tickets
   pub reached : before.view.floor ≤ base
   pub split : IsSplit memo first after crew workers (length group + 1)
-  pub ready : AreReady kind memo base group crew
+  pub ready : AreReady model memo base group crew
 
 -- ---- sums over the main seat and the crew
 

@@ -28,26 +28,26 @@ pub record IsBounded (bounds : List (ℕ × ℕ)) (s w : ℕ) : Type 0 where
 
 -- the bounds hold a word of the union that is at most the pair's least word, unless that is EMPTY
 abbrev pub IsDone : ℕ → JoinQuery → List Pair → List (ℕ × ℕ) → Pair → Type 0
-IsDone kind q pairs bounds p =
-    (w : ℕ) → LeastOfPair kind q pairs p w → (w ≡ EMPTY) ⊎ IsBounded bounds (union p.a p.b) w
+IsDone model q pairs bounds p =
+    (w : ℕ) → LeastOfPair model q pairs p w → (w ≡ EMPTY) ⊎ IsBounded bounds (union p.a p.b) w
 
 -- each pair of the group whose ticket is among the numbers is done
 abbrev pub AreDone : ℕ → JoinQuery → List Pair → ℕ → List Pair → List (ℕ × ℕ) → List ℕ → Type 0
-AreDone kind q pairs base group bounds tickets =
-    (k : ℕ) (d : Pair) → k < length group → 0 < times (base + k) tickets → IsDone kind q pairs bounds (slice_index_or group k d)
+AreDone model q pairs base group bounds tickets =
+    (k : ℕ) (d : Pair) → k < length group → 0 < times (base + k) tickets → IsDone model q pairs bounds (slice_index_or group k d)
 
 -- the pairs are of the memo's list, and the seat's bounds hold the least words of their sides
-pub record AreWorkable (kind : ℕ) (group : List Pair) (s : SeatView) : Type 0 where
+pub record AreWorkable (model : ℕ) (group : List Pair) (s : SeatView) : Type 0 where
   pub listed : (p : Pair) → Contains group p → Contains s.view.pairs p
-  pub sides : (p : Pair) → Contains group p → Settled kind s.view p.a × Settled kind s.view p.b
+  pub sides : (p : Pair) → Contains group p → Settled model s.view p.a × Settled model s.view p.b
 
 -- a seat that may draw a ticket for each pair and one past them
-pub record IsReady (kind : ℕ) (memo : MemoTable) (base : ℕ) (group : List Pair) (s : SeatView) : Type 0 where
+pub record IsReady (model : ℕ) (memo : MemoTable) (base : ℕ) (group : List Pair) (s : SeatView) : Type 0 where
   pub seat : IsSeatOf memo s
   pub floor : base ≤ s.view.floor
   pub weight : 1 ≤ s.view.weight
   pub allowance : length group + 1 ≤ s.view.allowance
-  pub workable : AreWorkable kind group s
+  pub workable : AreWorkable model group s
 
 -- what has been drawn since, and what has stayed
 pub record HasDrawn (before after : SeatView) (drawn : List ℕ) : Type 0 where
@@ -61,13 +61,13 @@ pub record HasDrawn (before after : SeatView) (drawn : List ℕ) : Type 0 where
   pub allowance : after.view.allowance + length drawn ≡ before.view.allowance
 
 -- exactly one new ticket is past the pairs, and the pair of each other one is done
-pub record HasWorked (kind base : ℕ) (group : List Pair) (before after : SeatView) : Type 0 where
+pub record HasWorked (model base : ℕ) (group : List Pair) (before after : SeatView) : Type 0 where
   pub tickets : List ℕ
   pub drawn : HasDrawn before after tickets
   pub one_past : past (base + length group) tickets ≡ 1
-  pub done : AreDone kind before.view.query before.view.pairs base group after.view.bounds tickets
+  pub done : AreDone model before.view.query before.view.pairs base group after.view.bounds tickets
 
 -- one pair is worked: no more than the bounds has changed, and the pair is done
-pub record HasWorkedPair (kind : ℕ) (p : Pair) (before after : SeatView) : Type 0 where
+pub record HasWorkedPair (model : ℕ) (p : Pair) (before after : SeatView) : Type 0 where
   pub drawn : HasDrawn before after []
-  pub done : IsDone kind before.view.query before.view.pairs after.view.bounds p
+  pub done : IsDone model before.view.query before.view.pairs after.view.bounds p

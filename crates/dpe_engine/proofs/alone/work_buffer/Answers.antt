@@ -18,15 +18,15 @@ sizes-init g c =
 pub returns : goal.returns
 returns g c =
     let i = c.sizes.invariant in
-    let kind = g.M.CostModel.KIND in
+    let model = g.M.CostModel.KIND in
     let shared = c.args.shared.now in
     let list : List Pair = c.args.shared.now.memo.pairs in
     let now = c.sizes.consumer in
     let end : c.sizes.size ≡ SIZES = let a = c.sizes-test.false in let b = c.sizes.auto.size-end in omega arith in
-    let F : ℕ → Type 0 = λ n. IsBetween kind shared (take now.pairs list ++ below n now.full.pairs) now.rounds now.seat in
+    let F : ℕ → Type 0 = λ n. IsBetween model shared (take now.pairs list ++ below n now.full.pairs) now.rounds now.seat in
     let G : ℕ → Type 0 = λ n. now.rounds ≡ c.args.consumer.rounds + length (groups_below n c.args.consumer.full.pairs) in
-    let H : List Pair → Type 0 = λ l. IsBetween kind shared (take now.pairs list ++ l) now.rounds now.seat in
-    let K : ℕ → Type 0 = λ k. IsBetween kind shared (take k list ++ c.args.consumer.full.pairs) now.rounds now.seat in
+    let H : List Pair → Type 0 = λ l. IsBetween model shared (take now.pairs list ++ l) now.rounds now.seat in
+    let K : ℕ → Type 0 = λ k. IsBetween model shared (take k list ++ c.args.consumer.full.pairs) now.rounds now.seat in
     let done = buffer_done _ _ _ _ _ i.at.next.rest _ i.at.plan i.at.next.is (subst F end i.at.between) in
     let contents = ap (λ (l : List Pair). length l) i.same.contents in
     let count : c.len-count.result ≡ length c.args.consumer.full.pairs = c.len-count.ensures.is ∙ contents in

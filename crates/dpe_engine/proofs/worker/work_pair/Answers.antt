@@ -59,32 +59,32 @@ offer-requires-clause-within g c = λ κs h. rw c.union-union.ensures ((pair_of_
 
 pub offer-requires-clause-word : goal.offer-requires-clause-word
 offer-requires-clause-word g c = λ κs h.
-    let kind = g.M.CostModel.KIND in
+    let model = g.M.CostModel.KIND in
     let q = c.args.memo.now.query in
-    let is = word_is kind q c.args.pair c.load-first.result c.load-second.result _ _ _ _ c.best_split-word.ensures
+    let is = word_is model q c.args.pair c.load-first.result c.load-second.result _ _ _ _ c.best_split-word.ensures
     (c.rows-rows_a.ensures.cardinality q c.requires.planned.rows) (c.rows-rows_b.ensures.cardinality q c.requires.planned.rows)
     (c.rows-rows.ensures.cardinality q c.requires.planned.rows ∙ ap (rows q) c.union-union.ensures) in
-    let sound = sound_pair kind q c.args.memo.now.pairs c.requires.planned.query c.requires.planned.within
+    let sound = sound_pair model q c.args.memo.now.pairs c.requires.planned.query c.requires.planned.within
     c.args.pair c.load-first.result c.load-second.result c.requires.listed c.load-first.ensures.made c.load-second.ensures.made in
-    let F : ℕ → Type 0 = λ w. (w ≡ EMPTY) ⊎ Made kind q c.args.memo.now.pairs (union c.args.pair.a c.args.pair.b) w in
-    let G : ℕ → Type 0 = λ s. (c.best_split-word.result ≡ EMPTY) ⊎ Made kind q c.args.memo.now.pairs s c.best_split-word.result in
+    let F : ℕ → Type 0 = λ w. (w ≡ EMPTY) ⊎ Made model q c.args.memo.now.pairs (union c.args.pair.a c.args.pair.b) w in
+    let G : ℕ → Type 0 = λ s. (c.best_split-word.result ≡ EMPTY) ⊎ Made model q c.args.memo.now.pairs s c.best_split-word.result in
     subst G (sym c.union-union.ensures) (subst F (sym is) sound)
 
 pub returns : goal.returns
 returns g c =
-    let kind = g.M.CostModel.KIND in
+    let model = g.M.CostModel.KIND in
     let q = c.args.memo.now.query in
     let v : View = c.args.seat.now.view in
-    let la : Least kind v.query v.pairs c.args.pair.a c.load-first.result = rw (c.requires.seat.query, c.requires.seat.pairs) (c.load-first.ensures.settled c.requires.first) in
-    let S : View → Type 0 = λ u. Settled kind u c.args.pair.b in
-    let still : Settled kind c.load-first.new.seat.view c.args.pair.b =
-    subst S (sym c.load-first.ensures.view) (stays_settled kind v (with_bound v c.args.pair.a c.load-first.result) c.args.pair.b refl refl (contains_tail _ _) c.requires.second) in
-    let lb : Least kind v.query v.pairs c.args.pair.b c.load-second.result = rw (c.requires.seat.query, c.requires.seat.pairs) (c.load-second.ensures.settled still) in
-    let is = word_is kind q c.args.pair c.load-first.result c.load-second.result _ _ _ _ c.best_split-word.ensures
+    let la : Least model v.query v.pairs c.args.pair.a c.load-first.result = rw (c.requires.seat.query, c.requires.seat.pairs) (c.load-first.ensures.settled c.requires.first) in
+    let S : View → Type 0 = λ u. Settled model u c.args.pair.b in
+    let still : Settled model c.load-first.new.seat.view c.args.pair.b =
+    subst S (sym c.load-first.ensures.view) (stays_settled model v (with_bound v c.args.pair.a c.load-first.result) c.args.pair.b refl refl (contains_tail _ _) c.requires.second) in
+    let lb : Least model v.query v.pairs c.args.pair.b c.load-second.result = rw (c.requires.seat.query, c.requires.seat.pairs) (c.load-second.ensures.settled still) in
+    let is = word_is model q c.args.pair c.load-first.result c.load-second.result _ _ _ _ c.best_split-word.ensures
     (c.rows-rows_a.ensures.cardinality q c.requires.planned.rows) (c.rows-rows_b.ensures.cardinality q c.requires.planned.rows)
     (c.rows-rows.ensures.cardinality q c.requires.planned.rows ∙ ap (rows q) c.union-union.ensures) in
-    let same : c.best_split-word.result ≡ pair_word kind v.query c.args.pair c.load-first.result c.load-second.result = rw c.requires.seat.query is in
+    let same : c.best_split-word.result ≡ pair_word model v.query c.args.pair c.load-first.result c.load-second.result = rw c.requires.seat.query is in
     let view : c.offer.new.seat.view ≡ with_offer c.load-second.new.seat.view (union c.args.pair.a c.args.pair.b) c.best_split-word.result =
     c.offer.ensures.view ∙ ap (λ (s : ℕ). with_offer c.load-second.new.seat.view s c.best_split-word.result) c.union-union.ensures in
-    worked_pair kind c.args.pair c.args.seat.now c.load-first.new.seat c.load-second.new.seat c.offer.new.seat c.load-first.result c.load-second.result c.best_split-word.result
+    worked_pair model c.args.pair c.args.seat.now c.load-first.new.seat c.load-second.new.seat c.offer.new.seat c.load-first.result c.load-second.result c.best_split-word.result
     c.load-first.ensures.table c.load-second.ensures.table c.offer.ensures.table c.load-first.ensures.view c.load-second.ensures.view view la lb same

@@ -30,24 +30,24 @@ open_round-base-requires-clause-may g c =
 pub returns-clause-at : goal.returns-clause-at
 returns-clause-at g c =
     let r = c.requires.at in
-    let kind = g.M.CostModel.KIND in
+    let model = g.M.CostModel.KIND in
     let shared = c.args.shared.now in
     let list : List Pair = c.args.shared.now.memo.pairs in
     let self = c.args.self.now in
     let group = c.group-group.result.now in
     let base = c.open_round-base.result in
-    let changed : HaveWorked kind base group c.as_mut_slice.result.now c.for_each_mut.new.s = search rules in
-    let F : List SeatView → Type 0 = λ l. HaveWorked kind base group l c.for_each_mut.new.s in
-    let worked : HaveWorked kind base group c.open_round-base.new.crew.items c.for_each_mut.new.s = subst F c.as_mut_slice.ensures.value changed in
-    let G : List SeatView → Type 0 = λ l. HaveWorked kind base group c.open_round-base.new.crew.items l in
+    let changed : HaveWorked model base group c.as_mut_slice.result.now c.for_each_mut.new.s = search rules in
+    let F : List SeatView → Type 0 = λ l. HaveWorked model base group l c.for_each_mut.new.s in
+    let worked : HaveWorked model base group c.open_round-base.new.crew.items c.for_each_mut.new.s = subst F c.as_mut_slice.ensures.value changed in
+    let G : List SeatView → Type 0 = λ l. HaveWorked model base group c.open_round-base.new.crew.items l in
     let round = c.close_round.ensures.worked base shared.workers group self.seat c.open_round-base.new.crew.items c.open_round-base.ensures.opened
     (subst G (sym (take_at c.for_each_mut.new.s _ _ (changed.size ∙ c.as_mut_slice.ensures.len))) worked) in
-    let H : List Pair → Type 0 = λ l. HasWorkedRound kind shared.memo base shared.workers l self.seat c.close_round.new.seat in
+    let H : List Pair → Type 0 = λ l. HasWorkedRound model shared.memo base shared.workers l self.seat c.close_round.new.seat in
     let counted = subst H c.group-group.ensures.group round in
     let next = next_group _ _ _ c.args.size (take self.pairs list) self.full.pairs _ (after_round _ _ _ _ _ _ _ _ r.between counted (let e = c.count.ensures in let f = c.if-count-eq0.false in omega arith)) in
     let stays = c.group-group.follows.holds-at-none in
     let S : List Pair → Type 0 = StandNext list (take self.pairs list) in
-    let B : List Pair → Type 0 = λ l. IsBetween kind shared (take self.pairs list ++ below (c.args.size + 1) l) (self.rounds + 1) c.close_round.new.seat in
+    let B : List Pair → Type 0 = λ l. IsBetween model shared (take self.pairs list ++ below (c.args.size + 1) l) (self.rounds + 1) c.close_round.new.seat in
     record {
       plan = r.plan;
       next = subst S (sym stays.0) r.next;
