@@ -1,5 +1,5 @@
 -- A pass refuses what its least refused member is refused for.
-use Rattle.std.proofs.Common.{◌≡◌, ◌↔◌, ◌∙◌, ℕ, suc, zero, ◌+◌, ◌<◌, List, [], ◌∷◌, Result, Ok, Err, Some, None, slice_get, refl, sym, ap, subst, arith}
+use Rattle.std.proofs.Common.{◌≡◌, ◌↔◌, ◌∙◌, ℕ, suc, zero, ◌+◌, ◌<◌, List, [], ◌∷◌, Result, Ok, Err, Some, slice_get, refl, sym, ap, subst, arith}
 use Rattle.std.proofs.lemmas.Option.{same_Some}
 use Rattle.query_json.specs.declared.refusal.QueryRefusal.{QueryRefusal}
 use Rattle.query_json.specs.Answer.{◌>>=◌}

@@ -1,17 +1,13 @@
 -- The first name that stands twice, by its place.
-use Rattle.std.proofs.Common.{◌≡◌, ◌↔◌, ◌∙◌, ℕ, suc, zero, ◌<◌, List, [], ◌∷◌, ◌++◌, Bool, true, false, map, take, Result, Ok, Err, Some, None, slice_get, refl, sym, ap, arith, append_assoc, append-nil, inl, inr}
-use Rattle.std.specs.List.{list_any}
-use Rattle.std.specs.Str.{bytes_eq}
+use Rattle.std.proofs.Common.{◌≡◌, ◌↔◌, ◌∙◌, ℕ, suc, zero, ◌<◌, List, [], ◌∷◌, ◌++◌, true, false, map, take, Result, Ok, Err, Some, slice_get, refl, sym, ap, arith, append_assoc, append-nil, inl, inr}
 use Rattle.std.proofs.lemmas.Bool.{cases_Bool}
 use Rattle.std.proofs.lemmas.Option.{same_Some}
 use Rattle.query_json.specs.declared.fault.FileFault.TheVariants.{DuplicateTable}
-use Rattle.query_json.specs.declared.file.RelationItem.{RelationItem}
-use Rattle.query_json.specs.declared.file.Table.{Table}
 use Rattle.query_json.specs.declared.refusal.QueryRefusal.TheVariants.{DuplicateAlias}
-use Rattle.query_json.specs.Entries.{or_table_twice, table_names}
+use Rattle.query_json.specs.Entries.{or_table_twice}
 use Rattle.query_json.specs.Laws.{DuplicateAliasesByPlace, DuplicateTablesByPlace, IsFirstRepeat, is_among}
 use Rattle.query_json.specs.Names.{distinct_after, distinct_names}
-use Rattle.query_json.specs.Queries.{aliases_of, or_alias_twice}
+use Rattle.query_json.specs.Queries.{or_alias_twice}
 
 -- the same after the names that were met
 record IsFirstAfter (met names : List (List ℕ)) (name : List ℕ) (k : ℕ) : Type 0 where

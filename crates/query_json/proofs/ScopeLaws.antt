@@ -1,5 +1,5 @@
 -- What was found for the relations and the joins of a query is what the definition looks up.
-use Rattle.std.proofs.Common.{◌≡◌, ◌∙◌, ℕ, suc, zero, ◌<◌, ◌≤◌, List, [], ◌∷◌, length, get_or, map, position, find, Option, Some, None, Result, Ok, Err, refl, sym, ap, arith}
+use Rattle.std.proofs.Common.{◌≡◌, ◌∙◌, ℕ, suc, zero, ◌<◌, List, [], ◌∷◌, length, get_or, map, position, find, Some, Result, Ok, refl, sym, ap}
 use Rattle.std.specs.Prelude.{option_and_then, slice_get}
 use Rattle.std.specs.Borrow.{Bor}
 use Rattle.std.specs.Str.{bytes_eq}
@@ -19,7 +19,7 @@ use Rattle.query_json.specs.Queries.{count_named, each_of, ends_of, most_distinc
 use Rattle.query_json.proofs.Binds.{bind_ok, ok_same}
 use Rattle.query_json.proofs.Finds.{find_by}
 use Rattle.query_json.proofs.Passes.{each_from, length-all_of}
-use Rattle.query_json.proofs.QueryLaws.{Stands, found_some, no_relation, stands}
+use Rattle.query_json.proofs.QueryLaws.{found_some, no_relation}
 
 pub now_at : {T : Type 0} (ts : List (Bor T)) (i : ℕ) (t : Bor T) → t ≡ get_or ts i t → t.now ≡ get_or (map (λ x. x.now) ts) i t.now
 now_at ts i t is = ap (λ x. x.now) is ∙ inside ts i t

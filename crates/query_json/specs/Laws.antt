@@ -1,12 +1,14 @@
--- What holds of each query of a file, what its first unreached relation is in the walks of its join graph, which name is the
--- first that stands twice, and that each pass over a query refuses its least place.
+-- What holds of each query of a file, what the first fault of a file is, what a query's first unreached relation is in the walks of its
+-- join graph, which name is the first that stands twice, and that each pass over a query refuses its least place.
 use Rattle.std.specs.Prelude.{ℕ, [], ◌∷◌, ◌≡◌, ◌↔◌, ◌<◌, List, All, None, Some, Ok, Err, Bool, true, false, map, take, slice_get, Result}
 use Rattle.std.specs.List.{list_any}
 use Rattle.std.specs.Str.{bytes_eq}
-use Rattle.query_json.specs.declared.fault.FileFault.TheVariants.{DuplicateTable}
+use Rattle.query_json.specs.declared.fault.FileFault.TheVariants.{DuplicateTable, Shape}
+use Rattle.query_json.specs.declared.file.File.{File}
 use Rattle.query_json.specs.declared.file.QueryItem.{QueryItem}
 use Rattle.query_json.specs.declared.file.RelationItem.{RelationItem}
 use Rattle.query_json.specs.declared.file.Table.{Table}
+use Rattle.query_json.specs.declared.place.Place.{Place}
 use Rattle.query_json.specs.declared.refusal.QueryRefusal.{QueryRefusal}
 use Rattle.query_json.specs.declared.refusal.QueryRefusal.TheVariants.{DuplicateAlias}
 use Rattle.dpe_base.specs.Queries.{JoinQuery, IsQuery, relations}
@@ -14,9 +16,12 @@ use Rattle.dpe_base.specs.Sets.{full}
 use Rattle.join_graph.specs.Graphs.{Connected, IsFirstUnreached, graph_of}
 use Rattle.query_json.specs.declared.entry.Entry.{Entry}
 use Rattle.query_json.specs.Entries.{entries_of, table_names}
+use Rattle.query_json.specs.Places.{AllKeepFormat, IsFirstBroken, visits}
 use Rattle.query_json.specs.Queries.{aliases_of, all_of, apart, checked, each_of, ends_of, most_distinct, pred_of, query_of, rel_of, sized, table_of}
 use Rattle.query_json.specs.Sound.{IsEntrySound}
 use Rattle.query_json.specs.Unreached.{first_unreached}
+use Rattle.query_json.specs.Walk.{file_of, json_of}
+use Rattle.serde_json.specs.Data.{Data}
 
 -- there is none exactly where the query is connected, and else it is the least that no walk from relation 0 reaches
 abbrev pub FirstUnreachedByWalks : Type 0
@@ -27,6 +32,13 @@ FirstUnreachedByWalks =
 -- each accepted entry of a file is a connected query within the limits, with one alias for each of its relations
 abbrev pub AcceptedEntriesAreSound : Type 0
 AcceptedEntriesAreSound = (bytes : List ℕ) (entries : List Entry) → entries_of bytes ≡ Ok entries → All IsEntrySound entries
+
+-- a file is refused for a place exactly when the place breaks the format and no earlier place in the order of the walk does; and it
+-- has the parts of a file exactly when no place breaks the format
+abbrev pub TheFirstBrokenPlaceIsTheFault : Type 0
+TheFirstBrokenPlaceIsTheFault =
+    (bytes : List ℕ) (d : Data) → json_of bytes ≡ Some d → ((p : Place) → (entries_of bytes ≡ Err (Shape p)) ↔ ((k : ℕ) × IsFirstBroken (visits d) p k))
+    × (((f : File) × (file_of bytes ≡ Ok f)) ↔ AllKeepFormat (visits d))
 
 -- a name is one of these
 abbrev pub is_among : List ℕ → List (List ℕ) → Bool

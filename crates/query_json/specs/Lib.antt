@@ -4,6 +4,7 @@ pub mod Entries
 pub mod Laws
 pub mod Limits
 pub mod Names
+pub mod Places
 pub mod Queries
 pub mod Scope
 pub mod Sound

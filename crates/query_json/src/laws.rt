@@ -1,5 +1,5 @@
 //! Laws on what a file means.
-ghost use Rattle.query_json.specs.Laws.{AcceptedEntriesAreSound, DuplicateAliasesByPlace, DuplicateTablesByPlace, FirstUnreachedByWalks, PassesRefuseTheLeastPlace, TheFirstPassDecides};
+ghost use Rattle.query_json.specs.Laws.{AcceptedEntriesAreSound, DuplicateAliasesByPlace, DuplicateTablesByPlace, FirstUnreachedByWalks, PassesRefuseTheLeastPlace, TheFirstBrokenPlaceIsTheFault, TheFirstPassDecides};
 
 /// The relation for which a query is refused as not connected is the least that no walk from relation 0 reaches, and
 /// there is none exactly where the query is connected.
@@ -10,6 +10,11 @@ pub fn unreached_by_walks()
 /// Each accepted entry of a file is a connected query within the limits, with one alias for each of its relations.
 pub fn accepted_entries_are_sound()
     ensures { AcceptedEntriesAreSound }
+{}
+
+/// A file is refused for a place exactly when the place breaks the format and no earlier place in the order of the walk does.
+pub fn the_first_broken_place_is_the_fault()
+    ensures { TheFirstBrokenPlaceIsTheFault }
 {}
 
 /// The table that a file is refused for is the first whose name an earlier table has.

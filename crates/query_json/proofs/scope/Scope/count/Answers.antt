@@ -1,4 +1,4 @@
-use Rattle.std.proofs.Common.{◌≡◌, ◌∙◌, ◌<◌, ◌≤◌, Some, None, Ok, map, length, sym, ap, arith, rules}
+use Rattle.std.proofs.Common.{◌≡◌, ◌∙◌, ◌≤◌, Ok, map, length, sym, ap, arith}
 use Rattle.query_json.specs.declared.refusal.QueryRefusal.TheVariants.{UnknownColumn}
 use Rattle.dpe_base.specs.declared.TheConstants.{N_MAX}
 use Rattle.query_json.specs.Columns.{distinct_in}
