@@ -109,7 +109,7 @@ least f xs why = (
   λ h. all_said f 0 xs why h.0 (counted_from f xs why h.0 h.1),
 )
 
-least_checked : {A B : Type 0} (g : A → Result B QueryRefusal) (xs : List A) (why : QueryRefusal) → (checked g xs ≡ Err why) ↔ ((k : ℕ) × IsFirstRefused (λ at. g) xs why k)
+pub least_checked : {A B : Type 0} (g : A → Result B QueryRefusal) (xs : List A) (why : QueryRefusal) → (checked g xs ≡ Err why) ↔ ((k : ℕ) × IsFirstRefused (λ at. g) xs why k)
 least_checked g xs why =
     let same = checked_as_all g 0 xs why in
     let both = least (λ at. g) xs why in

@@ -1,5 +1,6 @@
 pub mod Binds
 pub mod Finds
+pub mod FirstCauses
 pub mod FirstFaults
 pub mod FirstPasses
 pub mod Firsts

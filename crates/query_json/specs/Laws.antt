@@ -1,8 +1,6 @@
 -- What holds of each query of a file, what the first fault of a file is, what a query's first unreached relation is in the walks of its
 -- join graph, which name is the first that stands twice, and that each pass over a query refuses its least place.
-use Rattle.std.specs.Prelude.{ℕ, [], ◌∷◌, ◌≡◌, ◌↔◌, ◌<◌, List, All, None, Some, Ok, Err, Bool, true, false, map, take, slice_get, Result}
-use Rattle.std.specs.List.{list_any}
-use Rattle.std.specs.Str.{bytes_eq}
+use Rattle.std.specs.Prelude.{ℕ, [], ◌∷◌, ◌≡◌, ◌↔◌, ◌<◌, List, All, None, Some, Ok, Err, map, slice_get, Result}
 use Rattle.query_json.specs.declared.fault.FileFault.TheVariants.{DuplicateTable, Shape}
 use Rattle.query_json.specs.declared.file.File.{File}
 use Rattle.query_json.specs.declared.file.QueryItem.{QueryItem}
@@ -15,9 +13,12 @@ use Rattle.dpe_base.specs.Queries.{JoinQuery, IsQuery, relations}
 use Rattle.dpe_base.specs.Sets.{full}
 use Rattle.join_graph.specs.Graphs.{Connected, IsFirstUnreached, graph_of}
 use Rattle.query_json.specs.declared.entry.Entry.{Entry}
+use Rattle.query_json.specs.declared.entry.Named.{Named}
+use Rattle.query_json.specs.Causes.{IsFirstRepeat, Never, Refusing}
 use Rattle.query_json.specs.Entries.{entries_of, table_names}
+use Rattle.query_json.specs.Limits.{IsQueryWithin, IsTableWithin}
 use Rattle.query_json.specs.Places.{AllKeepFormat, IsFirstBroken, visits}
-use Rattle.query_json.specs.Queries.{aliases_of, all_of, apart, checked, each_of, ends_of, most_distinct, pred_of, query_of, rel_of, sized, table_of}
+use Rattle.query_json.specs.Queries.{aliases_of, all_of, apart, checked, each_of, ends_of, most_distinct, named_of, pred_of, query_of, rel_of, sized, table_of}
 use Rattle.query_json.specs.Sound.{IsEntrySound}
 use Rattle.query_json.specs.Unreached.{first_unreached}
 use Rattle.query_json.specs.Walk.{file_of, json_of}
@@ -39,16 +40,6 @@ abbrev pub TheFirstBrokenPlaceIsTheFault : Type 0
 TheFirstBrokenPlaceIsTheFault =
     (bytes : List ℕ) (d : Data) → json_of bytes ≡ Some d → ((p : Place) → (entries_of bytes ≡ Err (Shape p)) ↔ ((k : ℕ) × IsFirstBroken (visits d) p k))
     × (((f : File) × (file_of bytes ≡ Ok f)) ↔ AllKeepFormat (visits d))
-
--- a name is one of these
-abbrev pub is_among : List ℕ → List (List ℕ) → Bool
-is_among name names = list_any (bytes_eq name) names
-
--- at place k stands a name that an earlier place has too, and at no place before k does one
-pub record IsFirstRepeat (names : List (List ℕ)) (name : List ℕ) (k : ℕ) : Type 0 where
-  pub here : slice_get names k ≡ Some name
-  pub again : is_among name (take k names) ≡ true
-  pub first : (i : ℕ) (n : List ℕ) → i < k → slice_get names i ≡ Some n → is_among n (take i names) ≡ false
 
 -- a table is named as the duplicate exactly when its place is the least whose name an earlier table has
 abbrev pub DuplicateTablesByPlace : Type 0
@@ -101,3 +92,9 @@ abbrev pub TheFirstPassDecides : Type 0
 TheFirstPassDecides =
     (tables : List Table) (q : QueryItem) (why : QueryRefusal)
     → (query_of tables q ≡ Err why) ↔ ((k : ℕ) × IsFirstRefused (λ at (pass : Result (Unit {0}) QueryRefusal). pass) (passes tables q) why k)
+
+-- a query is refused for the first of nine causes, and none of them is there exactly where it is accepted
+abbrev pub TheFirstCauseDecides : Type 0
+TheFirstCauseDecides =
+    (tables : List Table) (q : QueryItem) → All IsTableWithin tables → IsQueryWithin q → ((why : QueryRefusal) → (named_of tables q ≡ Err why) ↔ Refusing tables q why)
+    × (((n : Named) × (named_of tables q ≡ Ok n)) ↔ Never (Refusing tables q))

@@ -1,4 +1,5 @@
 pub mod Answer
+pub mod Causes
 pub mod Columns
 pub mod Entries
 pub mod Laws

@@ -1,5 +1,5 @@
 //! Laws on what a file means.
-ghost use Rattle.query_json.specs.Laws.{AcceptedEntriesAreSound, DuplicateAliasesByPlace, DuplicateTablesByPlace, FirstUnreachedByWalks, PassesRefuseTheLeastPlace, TheFirstBrokenPlaceIsTheFault, TheFirstPassDecides};
+ghost use Rattle.query_json.specs.Laws.{AcceptedEntriesAreSound, DuplicateAliasesByPlace, DuplicateTablesByPlace, FirstUnreachedByWalks, PassesRefuseTheLeastPlace, TheFirstBrokenPlaceIsTheFault, TheFirstCauseDecides, TheFirstPassDecides};
 
 /// The relation for which a query is refused as not connected is the least that no walk from relation 0 reaches, and
 /// there is none exactly where the query is connected.
@@ -25,6 +25,11 @@ pub fn duplicate_tables_by_place()
 /// The alias that a query is refused for is that of the first relation whose alias an earlier relation has.
 pub fn duplicate_aliases_by_place()
     ensures { DuplicateAliasesByPlace }
+{}
+
+/// A query is refused for the first of nine causes, and it is accepted exactly where none of them is there.
+pub fn the_first_cause_decides()
+    ensures { TheFirstCauseDecides }
 {}
 
 /// A query is refused for what the first of eight passes gives that refuses it. What none of them refuses is refused where
