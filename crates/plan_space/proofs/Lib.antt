@@ -1,4 +1,3 @@
-pub mod ThinSteps
 pub mod ClassLaws
 pub mod ThinLaws
 pub mod LeastOf

@@ -1,5 +1,5 @@
 -- The pairs of a list that have a small side.
-use Rattle.std.specs.Prelude.{◌≡◌, ℕ, Bool, ◌||◌, nat_le, List, [], refl}
+use Rattle.std.specs.Prelude.{ℕ, Bool, ◌||◌, nat_le, List}
 use Rattle.std.specs.List.{filter}
 use Rattle.dpe_base.specs.declared.pair.Pair.{Pair}
 use Rattle.dpe_base.specs.Sets.{size}
@@ -11,8 +11,3 @@ is_thin width p = nat_le (size p.a) width || nat_le (size p.b) width
 -- the list without the pairs both of whose sides have more than that many relations
 unfoldable pub thin : ℕ → List Pair → List Pair
 thin width pairs = filter (is_thin width) pairs
-
--- a list with no pair has no thin one
-pub ended_thin : (width : ℕ) (pairs : List Pair) (probed total : ℕ) → (pairs ≡ []) × (probed ≡ total) → (thin width pairs ≡ []) × (probed ≡ total)
-unfolding thin
-ended_thin width pairs probed total e = (rw e.0 refl, e.1)
