@@ -22,7 +22,7 @@ use Rattle.plan_space.specs.Classes.{InClass, LeastIn, PlanIn}
 use Rattle.plan_space.specs.Laws.{ConnectedSetsHaveOnePlanIn, ConnectedSetsHaveLeastWordsIn}
 use Rattle.plan_space.specs.Thin.{thin}
 use Rattle.plan_space.proofs.ClassLaws.{HasLeast, least_same, least_connected, plan_join, plan_same}
-use Rattle.plan_space.proofs.ThinLaws.{IsOfWidth, narrow_of_two, zig_zag_of_one, thin_built, thin_builds, thin_least}
+use Rattle.plan_space.proofs.ThinLaws.{IsOfWidth, narrow_of_two, zig_zag_of_one, in_thin_pairs, thin_built, thin_pairs_build_their_sides, thin_least}
 use Rattle.plan_space.proofs.LeftLaws.{connected_left}
 
 -- ---- least words
@@ -31,8 +31,8 @@ thin_exists : (c : Class) (width model : ℕ) (q : JoinQuery) (s : ℕ) → IsOf
 thin_exists c width model q s of_width some ok cs =
     let list : (pairs : List Pair) × HasAllPairs (graph_of q) pairs = all_pairs q ok in
     let least : (w : ℕ) × Least model q (thin width list.0) s w =
-    least_exists model q (thin width list.0) ok (thin_builds (graph_of q) width list.0 (graph_is q ok) some list.1) (suc s) s (omega arith) (cs, thin_built (graph_of q) width list.0 (graph_is q ok) some list.1 s cs) in
-    (least.0, (thin_least c width model q list.0 of_width ok list.1 s least.0).0 least.1)
+    least_exists model q (thin width list.0) ok (thin_pairs_build_their_sides (graph_of q) width (thin width list.0) (graph_is q ok) some (in_thin_pairs (graph_of q) width list.0 list.1)) (suc s) s (omega arith) (cs, thin_built (graph_of q) width (thin width list.0) (graph_is q ok) some (in_thin_pairs (graph_of q) width list.0 list.1) s cs) in
+    (least.0, (thin_least c width model q (thin width list.0) of_width ok (in_thin_pairs (graph_of q) width list.0 list.1) s least.0).0 least.1)
 
 pub connected_least : (c : Class) (model : ℕ) (q : JoinQuery) (s : ℕ) → IsQuery q → Connected (graph_of q) s → (w : ℕ) × LeastIn c model q s w
 connected_least Narrow model q s ok cs = thin_exists Narrow 2 model q s narrow_of_two (omega arith) ok cs

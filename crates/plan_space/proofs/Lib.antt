@@ -1,5 +1,7 @@
 pub mod ClassLaws
 pub mod ThinLaws
+pub mod ZigZagLaw
+pub mod ZigZagSteps
 pub mod LeastOf
 pub mod LeftLaws
 pub mod ClassPlans

@@ -12,7 +12,7 @@ use Rattle.dpe_base.proofs.SizeLaws.{size-single}
 use Rattle.join_graph.specs.Graphs.{JoinGraph, IsGraph, Connected, Pairs, pair_of, graph_of}
 use Rattle.join_graph.specs.PairLists.{HasAllPairs, SideBuilt}
 use Rattle.join_graph.proofs.GraphLaws.{Extended, connected_extended, connected_single, pair_either}
-use Rattle.join_tree.specs.Trees.{JoinTree, leaf, join, set_of, Legal, Trees, Least, Builds}
+use Rattle.join_tree.specs.Trees.{JoinTree, leaf, join, set_of, Legal, Trees, Least}
 use Rattle.join_tree.proofs.TreeLaws.{legal_connected, made_legal}
 use Rattle.pair_stream.specs.Orders.{StandsAt, BuildsSide, Ordered}
 use Rattle.pair_stream.proofs.Lists.{contains_filter, contains_from_filter, passes_from_filter}
@@ -20,13 +20,13 @@ use Rattle.pair_stream.proofs.OrderLaws.{MayPrecede, builds_itself}
 use Rattle.plan_space.specs.declared.class.Class.{Class}
 use Rattle.plan_space.specs.declared.class.Class.TheVariants.{Narrow, ZigZag}
 use Rattle.plan_space.specs.Classes.{SidesIn, JoinsIn, InClass, LeastIn}
-use Rattle.plan_space.specs.Laws.{ThinListsHaveTheThinPairs, ThinListsAreOrdered, ThinListsMakeTheClasses, ThinListsGiveLeastWords}
-use Rattle.plan_space.specs.Thin.{is_thin, thin}
+use Rattle.plan_space.specs.Laws.{ThinListsHaveTheThinPairs, ThinListsAreOrdered, ThinListsMakeTheClasses, ThinListsGiveLeastWords, ThinPairsBuildTheirSides, ThinPairsMakeTheClasses, ThinPairsGiveLeastWords}
+use Rattle.plan_space.specs.Thin.{is_thin, thin, HasThinPairs}
 use Rattle.plan_space.proofs.ClassLaws.{leaf_one, one_leaf}
 
 -- ---- members
 
-abbrev SmallSide : ℕ → ℕ → ℕ → Type 0
+abbrev pub SmallSide : ℕ → ℕ → ℕ → Type 0
 SmallSide width a b = (size a ≤ width) ⊎ (size b ≤ width)
 
 thin_small : (width : ℕ) (p : Pair) → is_thin width p ≡ true → SmallSide width p.a p.b
@@ -87,37 +87,46 @@ before_from g pairs within order j k p q at_j at_k b =
         let m : MayPrecede q (get_or pairs j q) = subst (λ x. MayPrecede x (get_or pairs j q)) at_k.1 h in
         (subst (MayPrecede q) (get_or_default pairs j q p at_j.0 ∙ at_j.1) m).1
 
+-- ---- lists of the thin pairs, whatever made them
+
+pub in_thin_pairs : (g : JoinGraph) (width : ℕ) (pairs : List Pair) → HasAllPairs g pairs → HasThinPairs g width (thin width pairs)
+in_thin_pairs g width pairs all p = (
+  λ c. ((all p).0 (of_thin width pairs p c).0, (of_thin width pairs p c).1),
+  λ h. in_thin width pairs p ((all p).1 h.0) h.1,
+)
+
 -- a connected set of two relations or more is made of one without a relation, and of this
-pub thin_built : (g : JoinGraph) (width : ℕ) (pairs : List Pair) → IsGraph g → 1 ≤ width → HasAllPairs g pairs → (s : ℕ) → Connected g s → SideBuilt (thin width pairs) s
+pub thin_built : (g : JoinGraph) (width : ℕ) (pairs : List Pair) → IsGraph g → 1 ≤ width → HasThinPairs g width pairs → (s : ℕ) → Connected g s → SideBuilt pairs s
 thin_built g width pairs ok some all s c many =
     let e : Extended g s = connected_extended g s c many in
     let one : size (single e.last) ≤ width = omega (arith, size-single e.last, some) in
     elim (pair_either g e.part (single e.last) ok.few e.connected (connected_single g e.last e.known) e.apart e.crossed) [
-      | inl p ↦ (pair_of e.part (single e.last), in_thin width pairs _ ((all _).1 p) (inr one), e.whole)
-      | inr p ↦ (pair_of (single e.last) e.part, in_thin width pairs _ ((all _).1 p) (inl one), union_comm (single e.last) e.part ∙ e.whole)
+      | inl p ↦ (pair_of e.part (single e.last), (all _).1 (p, inr one), e.whole)
+      | inr p ↦ (pair_of (single e.last) e.part, (all _).1 (p, inl one), union_comm (single e.last) e.part ∙ e.whole)
     ]
 
-thin_pairs : (g : JoinGraph) (width : ℕ) (pairs : List Pair) → HasAllPairs g pairs → (p : Pair) → Contains (thin width pairs) p → Pairs g p
-thin_pairs g width pairs all p c = (all p).0 (of_thin width pairs p c).0
-
-pub thin_builds : (g : JoinGraph) (width : ℕ) (pairs : List Pair) → IsGraph g → 1 ≤ width → HasAllPairs g pairs → Builds g (thin width pairs)
-thin_builds g width pairs ok some all =
+pub thin_pairs_build_their_sides : ThinPairsBuildTheirSides
+thin_pairs_build_their_sides g width pairs ok some all =
     record {
-      within = thin_pairs g width pairs all;
+      within = λ p c. ((all p).0 c).0;
       sides = λ p c. (
-        thin_built g width pairs ok some all p.a (thin_pairs g width pairs all p c).first,
-        thin_built g width pairs ok some all p.b (thin_pairs g width pairs all p c).second,
+        thin_built g width pairs ok some all p.a ((all p).0 c).0.first,
+        thin_built g width pairs ok some all p.b ((all p).0 c).0.second,
       );
+    }
+
+pub ordered_from : (g : JoinGraph) (width : ℕ) (pairs : List Pair) → IsGraph g → 1 ≤ width → HasThinPairs g width pairs → AllPairs MayPrecede pairs → Ordered pairs
+ordered_from g width pairs ok some all order =
+    record {
+      once = λ j k d l in_list. (order j k d l in_list).0;
+      before = before_from g pairs (λ p c. ((all p).0 c).0) order;
+      sides = (thin_pairs_build_their_sides g width pairs ok some all).sides;
     }
 
 pub thin_lists_are_ordered : ThinListsAreOrdered
 thin_lists_are_ordered g width pairs ok some all order = (
-  record {
-    once = λ j k d l in_list. (thin_may_precede width pairs order j k d l in_list).0;
-    before = before_from g (thin width pairs) (thin_pairs g width pairs all.members) (thin_may_precede width pairs order);
-    sides = (thin_builds g width pairs ok some all.members).sides;
-  },
-  thin_builds g width pairs ok some all.members,
+  ordered_from g width (thin width pairs) ok some (in_thin_pairs g width pairs all.members) (thin_may_precede width pairs order),
+  thin_pairs_build_their_sides g width (thin width pairs) ok some (in_thin_pairs g width pairs all.members),
 )
 
 -- ---- trees
@@ -136,44 +145,44 @@ zig_zag_of_one model g l r m n = (
   λ h. elim h [ inl x ↦ inl (one_leaf model g l m x) | inr x ↦ inr (one_leaf model g r n x) ],
 )
 
-module _ (c : Class) (width model : ℕ) (q : JoinQuery) (pairs : List Pair) (of_width : IsOfWidth c width) (ok : IsQuery q) (all : HasAllPairs (graph_of q) pairs) where
-  thin_within : (p : Pair) → Contains (thin width pairs) p → Pairs (graph_of q) p
-  thin_within p h = thin_pairs (graph_of q) width pairs all p h
+module _ (c : Class) (width model : ℕ) (q : JoinQuery) (pairs : List Pair) (of_width : IsOfWidth c width) (ok : IsQuery q) (all : HasThinPairs (graph_of q) width pairs) where
+  thin_within : (p : Pair) → Contains pairs p → Pairs (graph_of q) p
+  thin_within p h = ((all p).0 h).0
 
-  small_of : (a b : ℕ) → Contains (thin width pairs) (pair_of a b) ⊎ Contains (thin width pairs) (pair_of b a) → SmallSide width a b
+  small_of : (a b : ℕ) → Contains pairs (pair_of a b) ⊎ Contains pairs (pair_of b a) → SmallSide width a b
   small_of a b h =
       elim h [
-        | inl x ↦ (of_thin width pairs (pair_of a b) x).1
-        | inr x ↦ elim (of_thin width pairs (pair_of b a) x).1 [ inl y ↦ inr y | inr y ↦ inl y ]
+        | inl x ↦ ((all (pair_of a b)).0 x).1
+        | inr x ↦ elim ((all (pair_of b a)).0 x).1 [ inl y ↦ inr y | inr y ↦ inl y ]
       ]
 
-  made_joins : (t : JoinTree) → Trees model q (thin width pairs) t → JoinsIn c t
+  made_joins : (t : JoinTree) → Trees model q pairs t → JoinsIn c t
   made_joins (leaf r) m = tt
   made_joins (join op l r) m = (
-    (of_width model (graph_of q) l r (made_legal model q (thin width pairs) thin_within l m.1) (made_legal model q (thin width pairs) thin_within r m.2)).1 (small_of (set_of l) (set_of r) m.3),
+    (of_width model (graph_of q) l r (made_legal model q pairs thin_within l m.1) (made_legal model q pairs thin_within r m.2)).1 (small_of (set_of l) (set_of r) m.3),
     made_joins l m.1,
     made_joins r m.2,
   )
 
-  class_made : (t : JoinTree) → Legal model (graph_of q) t → JoinsIn c t → Trees model q (thin width pairs) t
+  class_made : (t : JoinTree) → Legal model (graph_of q) t → JoinsIn c t → Trees model q pairs t
   class_made (leaf r) m j = m
   class_made (join op l r) m j = (
     m.0,
     class_made l m.1 j.1,
     class_made r m.2 j.2,
     elim (pair_either (graph_of q) (set_of l) (set_of r) ok.few (legal_connected model (graph_of q) l m.1) (legal_connected model (graph_of q) r m.2) m.3 m.4) [
-      | inl p ↦ inl (in_thin width pairs _ ((all _).1 p) ((of_width model (graph_of q) l r m.1 m.2).0 j.0))
-      | inr p ↦ inr (in_thin width pairs _ ((all _).1 p) (elim ((of_width model (graph_of q) l r m.1 m.2).0 j.0) [ inl x ↦ inr x | inr x ↦ inl x ]))
+      | inl p ↦ inl ((all _).1 (p, (of_width model (graph_of q) l r m.1 m.2).0 j.0))
+      | inr p ↦ inr ((all _).1 (p, elim ((of_width model (graph_of q) l r m.1 m.2).0 j.0) [ inl x ↦ inr x | inr x ↦ inl x ]))
     ],
   )
 
-  thin_makes : (t : JoinTree) → Trees model q (thin width pairs) t ↔ InClass c model (graph_of q) t
+  thin_makes : (t : JoinTree) → Trees model q pairs t ↔ InClass c model (graph_of q) t
   thin_makes t = (
-    λ m. record { legal = made_legal model q (thin width pairs) thin_within t m; joins = made_joins t m },
+    λ m. record { legal = made_legal model q pairs thin_within t m; joins = made_joins t m },
     λ i. class_made t i.legal i.joins,
   )
 
-  pub thin_least : (s w : ℕ) → Least model q (thin width pairs) s w ↔ LeastIn c model q s w
+  pub thin_least : (s w : ℕ) → Least model q pairs s w ↔ LeastIn c model q s w
   thin_least s w = (
     λ x. record {
       some = (x.made.tree, (thin_makes x.made.tree).0 x.made.made, x.made.over, x.made.word);
@@ -185,20 +194,29 @@ module _ (c : Class) (width model : ℕ) (q : JoinQuery) (pairs : List Pair) (of
     },
   )
 
+pub thin_pairs_make_the_classes : ThinPairsMakeTheClasses
+thin_pairs_make_the_classes model q pairs t ok = (
+  λ all. thin_makes Narrow 2 model q pairs narrow_of_two ok all t,
+  λ all. thin_makes ZigZag 1 model q pairs zig_zag_of_one ok all t,
+)
+
+pub thin_pairs_give_least_words : ThinPairsGiveLeastWords
+thin_pairs_give_least_words model q pairs s w ok = (
+  λ all. thin_least Narrow 2 model q pairs narrow_of_two ok all s w,
+  λ all. thin_least ZigZag 1 model q pairs zig_zag_of_one ok all s w,
+)
+
 pub thin_lists_make_the_classes : ThinListsMakeTheClasses
 thin_lists_make_the_classes model q pairs t ok all = (
-  thin_makes Narrow 2 model q pairs narrow_of_two ok all.members t,
-  thin_makes ZigZag 1 model q pairs zig_zag_of_one ok all.members t,
+  (thin_pairs_make_the_classes model q (thin 2 pairs) t ok).0 (in_thin_pairs (graph_of q) 2 pairs all.members),
+  (thin_pairs_make_the_classes model q (thin 1 pairs) t ok).1 (in_thin_pairs (graph_of q) 1 pairs all.members),
 )
 
 pub thin_lists_give_least_words : ThinListsGiveLeastWords
 thin_lists_give_least_words model q pairs s w ok all = (
-  thin_least Narrow 2 model q pairs narrow_of_two ok all.members s w,
-  thin_least ZigZag 1 model q pairs zig_zag_of_one ok all.members s w,
+  (thin_pairs_give_least_words model q (thin 2 pairs) s w ok).0 (in_thin_pairs (graph_of q) 2 pairs all.members),
+  (thin_pairs_give_least_words model q (thin 1 pairs) s w ok).1 (in_thin_pairs (graph_of q) 1 pairs all.members),
 )
 
 pub thin_lists_have_the_thin_pairs : ThinListsHaveTheThinPairs
-thin_lists_have_the_thin_pairs g width pairs p all = (
-  λ c. (thin_pairs g width pairs all p c, (of_thin width pairs p c).1),
-  λ h. in_thin width pairs p ((all p).1 h.0) h.1,
-)
+thin_lists_have_the_thin_pairs g width pairs p all = in_thin_pairs g width pairs all p

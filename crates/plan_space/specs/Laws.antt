@@ -10,7 +10,7 @@ use Rattle.pair_stream.specs.Orders.{Ordered, Complete}
 use Rattle.plan_space.specs.declared.class.Class.{Class}
 use Rattle.plan_space.specs.declared.class.Class.TheVariants.{Narrow, ZigZag, LeftDeep}
 use Rattle.plan_space.specs.Classes.{InClass, LeastIn, PlanIn}
-use Rattle.plan_space.specs.Thin.{thin}
+use Rattle.plan_space.specs.Thin.{thin, HasThinPairs}
 
 -- Of a list of all pairs, each after those that build its sides, the thin pairs are ordered in the same way, and the
 -- sides of each are built by thin pairs,
@@ -63,3 +63,22 @@ abbrev pub ThinListsHaveTheThinPairs : Type 0
 ThinListsHaveTheThinPairs =
     (g : JoinGraph) (width : ℕ) (pairs : List Pair) (p : Pair) → HasAllPairs g pairs
     → Contains (thin width pairs) p ↔ (Pairs g p × ((size p.a ≤ width) ⊎ (size p.b ≤ width)))
+
+-- A list of the pairs that have a side of so few relations, whatever made it, builds the sides of each,
+abbrev pub ThinPairsBuildTheirSides : Type 0
+ThinPairsBuildTheirSides =
+    (g : JoinGraph) (width : ℕ) (pairs : List Pair) → IsGraph g → 1 ≤ width → HasThinPairs g width pairs → Builds g pairs
+
+-- makes the trees of the class,
+abbrev pub ThinPairsMakeTheClasses : Type 0
+ThinPairsMakeTheClasses =
+    (model : ℕ) (q : JoinQuery) (pairs : List Pair) (t : JoinTree) → IsQuery q
+    → (HasThinPairs (graph_of q) 2 pairs → Trees model q pairs t ↔ InClass Narrow model (graph_of q) t)
+    × (HasThinPairs (graph_of q) 1 pairs → Trees model q pairs t ↔ InClass ZigZag model (graph_of q) t)
+
+-- and has the least words of the class.
+abbrev pub ThinPairsGiveLeastWords : Type 0
+ThinPairsGiveLeastWords =
+    (model : ℕ) (q : JoinQuery) (pairs : List Pair) (s w : ℕ) → IsQuery q
+    → (HasThinPairs (graph_of q) 2 pairs → Least model q pairs s w ↔ LeastIn Narrow model q s w)
+    × (HasThinPairs (graph_of q) 1 pairs → Least model q pairs s w ↔ LeastIn ZigZag model q s w)

@@ -1,5 +1,7 @@
 pub mod Classes
 pub mod Thin
+pub mod ZigZag
+pub mod ZigZagLeft
 pub mod LeastWords
 pub mod Roots
 pub mod Laws

@@ -1,5 +1,5 @@
 //! What holds of thin lists, and of the plans of a class.
-ghost use Rattle.plan_space.specs.Laws.{ThinListsHaveTheThinPairs, ThinListsAreOrdered, ThinListsMakeTheClasses, ThinListsGiveLeastWords, ConnectedSetsHaveLeastWordsIn, ConnectedSetsHaveOnePlanIn, ClassesAreNested, NarrowerClassesCostNoLess};
+ghost use Rattle.plan_space.specs.Laws.{ThinListsHaveTheThinPairs, ThinListsAreOrdered, ThinListsMakeTheClasses, ThinListsGiveLeastWords, ThinPairsBuildTheirSides, ThinPairsMakeTheClasses, ThinPairsGiveLeastWords, ConnectedSetsHaveLeastWordsIn, ConnectedSetsHaveOnePlanIn, ClassesAreNested, NarrowerClassesCostNoLess};
 
 /// The thin pairs of a list of all pairs are those that have a side of so few relations.
 pub fn thin_lists_have_the_thin_pairs()
@@ -19,6 +19,21 @@ pub fn thin_lists_make_the_classes()
 /// The least words over the thin pairs of a complete list are those of the class.
 pub fn thin_lists_give_least_words()
     ensures { ThinListsGiveLeastWords }
+{}
+
+/// A list of the thin pairs, whatever made it, builds the sides of each.
+pub fn thin_pairs_build_their_sides()
+    ensures { ThinPairsBuildTheirSides }
+{}
+
+/// A list of the thin pairs, whatever made it, makes the trees of a class.
+pub fn thin_pairs_make_the_classes()
+    ensures { ThinPairsMakeTheClasses }
+{}
+
+/// The least words over a list of the thin pairs, whatever made it, are those of the class.
+pub fn thin_pairs_give_least_words()
+    ensures { ThinPairsGiveLeastWords }
 {}
 
 /// The connected sets are those that have a least word in a class, and a set has at most one.
