@@ -4,7 +4,7 @@ ghost use Rattle.dpe_base.specs.Queries.{relations};
 ghost use Rattle.dpe_base.specs.Sets.{full};
 ghost use Rattle.std.specs.Prelude.{◌≡◌, ◌≤◌};
 
-use crate::{Class, Thin, build_class, left_words};
+use crate::{Class, Thin, ZigZagPairs, build_class, left_words};
 use card_scaled::CardTable;
 use cost_model::{CostModel, Cout, LEAF, Ops, Word, best_split};
 use dpe_base::{EMPTY, Pair, Pred, Query, ROW_CAP, Rel, RelSet, SPAN};
@@ -20,6 +20,17 @@ enum Shape {
     Cycle,
     Star,
     Clique,
+    // A drawn tree and drawn edges, by the seed.
+    Drawn(u32),
+}
+
+// A number drawn for two relations.
+fn drawn(seed: u32, low: u8, high: u8) -> u32 {
+    let place = seed
+        .wrapping_mul(64)
+        .wrapping_add(low as u32 * 8)
+        .wrapping_add(high as u32);
+    place.wrapping_mul(0x9e37_79b1) >> 16
 }
 
 // Whether two relations of the shape are joined, the lower first.
@@ -31,6 +42,10 @@ fn is_edge(shape: Shape, n: u8, low: u8, high: u8) -> bool {
         }
         Shape::Star => low == 0,
         Shape::Clique => true,
+        Shape::Drawn(seed) => {
+            low as u32 == drawn(seed, high, high) % (high.max(1) as u32)
+                || drawn(seed, low, high) % 4 == 0
+        }
     }
 }
 
@@ -84,17 +99,22 @@ fn leaves(tree: &Tree) -> usize {
     }
 }
 
+// Whether the class has joins of so many relations with so many.
+fn may_join(class: Class, left: usize, right: usize) -> bool {
+    match class {
+        Class::Narrow => left <= 2 || right <= 2,
+        Class::ZigZag => left == 1 || right == 1,
+        Class::LeftDeep => right == 1,
+    }
+}
+
 fn is_in(class: Class, tree: &Tree) -> bool {
     match tree {
         Tree::Leaf(_) => true,
         Tree::Join { op: _, left, right } => {
-            let (l, r) = (leaves(left), leaves(right));
-            let here = match class {
-                Class::Narrow => l <= 2 || r <= 2,
-                Class::ZigZag => l == 1 || r == 1,
-                Class::LeftDeep => r == 1,
-            };
-            here && is_in(class, left) && is_in(class, right)
+            may_join(class, leaves(left), leaves(right))
+                && is_in(class, left)
+                && is_in(class, right)
         }
     }
 }
@@ -119,24 +139,49 @@ fn join_all(
     Ok(())
 }
 
-// All trees over the sets below 2 ^ n, with and without cross products.
-fn all_trees(alloc: Global, ops: u8, n: u8) -> Result<Vec<Vec<Tree>>, AllocError> {
-    let mut all: Vec<Vec<Tree>> = Vec::new(alloc);
-    let end = if n <= 20 { 1u32 << n } else { 0 };
-    for s in 0..end {
-        let mut trees = Vec::new(alloc);
-        let set = RelSet::of_bits(s);
-        if let (1, Some(r)) = (set.len(), set.least()) {
-            trees.push(Tree::Leaf(r))?;
-        }
-        for a in 1..s {
-            if RelSet::of_bits(a).within(set) {
-                let b = set.minus(RelSet::of_bits(a)).bits();
-                if let (Some(lefts), Some(rights)) = (all.get(a as usize), all.get(b as usize)) {
-                    join_all(alloc, ops, lefts, rights, &mut trees)?;
-                }
+// The trees of the class over a connected set, from those over all smaller ones.
+fn trees_over(
+    alloc: Global,
+    ops: u8,
+    class: Class,
+    smaller: &[Vec<Tree>],
+    set: RelSet,
+) -> Result<Vec<Tree>, AllocError> {
+    let mut trees = Vec::new(alloc);
+    if let (1, Some(r)) = (set.len(), set.least()) {
+        trees.push(Tree::Leaf(r))?;
+    }
+    for a in 1..set.bits() {
+        let left = RelSet::of_bits(a);
+        let right = set.minus(left);
+        if left.within(set) && may_join(class, left.len() as usize, right.len() as usize) {
+            if let (Some(lefts), Some(rights)) = (
+                smaller.get(a as usize),
+                smaller.get(right.bits() as usize),
+            ) {
+                join_all(alloc, ops, lefts, rights, &mut trees)?;
             }
         }
+    }
+    Ok(trees)
+}
+
+// The trees of the class over each set; a set that isn't connected has none.
+fn class_trees(
+    alloc: Global,
+    ops: u8,
+    class: Class,
+    graph: &Graph,
+) -> Result<Vec<Vec<Tree>>, AllocError> {
+    let mut all: Vec<Vec<Tree>> = Vec::new(alloc);
+    let whole = RelSet::full(graph.n());
+    for s in 0..whole.bits().saturating_add(1) {
+        let set = RelSet::of_bits(s);
+        let trees = if set.within(whole) && graph.connected(set) {
+            trees_over(alloc, ops, class, &all, set)?
+        } else {
+            Vec::new(alloc)
+        };
         all.push(trees)?;
     }
     Ok(all)
@@ -230,13 +275,12 @@ fn quick_words<M: CostModel>(
     requires cards { IsCardTable query.now cards.now }
     requires connected { Connected (graph_of query.now) (full (relations query.now)) }
 {
-    let width = match class {
-        Class::Narrow => 2,
-        Class::ZigZag => 1,
+    let graph = Graph::of(query);
+    let pairs = match class {
+        Class::Narrow => collect_pairs(alloc, &mut Thin::over(DpSub::over(&graph), 2))?,
+        Class::ZigZag => collect_pairs(alloc, &mut ZigZagPairs::over(&graph))?,
         Class::LeftDeep => return Ok(left_words(alloc, query, model, cards)?),
     };
-    let mut thin = Thin::over(DpSub::over(&Graph::of(query)), width);
-    let pairs = collect_pairs(alloc, &mut thin)?;
     Ok(worked(alloc, model, query, cards, &pairs)?)
 }
 
@@ -248,12 +292,13 @@ fn first_fault<M: CostModel>(
     class: Class,
 ) -> Result<Option<usize>, Fail> {
     let all = RelSet::full(query.n());
-    if !Graph::of(query).connected(all) {
+    let graph = Graph::of(query);
+    if !graph.connected(all) {
         return Err("not connected".into());
     }
     let cards = CardTable::make(alloc, query)?;
     let words = quick_words(alloc, model, query, &cards, class)?;
-    let trees = all_trees(alloc, M::OPS, query.n())?;
+    let trees = class_trees(alloc, M::OPS, class, &graph)?;
     for s in 0..trees.len() {
         if words.get(s) != Some(&least_of(model, query, class, &trees[s])) {
             return Ok(Some(s));
@@ -262,13 +307,20 @@ fn first_fault<M: CostModel>(
     Ok(None)
 }
 
-const SHAPES: [Shape; 4] = [Shape::Chain, Shape::Cycle, Shape::Star, Shape::Clique];
+const SHAPES: [Shape; 6] = [
+    Shape::Chain,
+    Shape::Cycle,
+    Shape::Star,
+    Shape::Clique,
+    Shape::Drawn(1),
+    Shape::Drawn(2),
+];
 
 const CLASSES: [Class; 3] = [Class::Narrow, Class::ZigZag, Class::LeftDeep];
 
 #[test]
 fn words_by_operators_are_the_least_of_all_trees(rt: HostRuntime) -> Result<(), Fail> {
-    for n in 1..5u8 {
+    for n in 1..6u8 {
         for shape in SHAPES {
             let query = query(rt.alloc(), n, shape)?;
             for class in CLASSES {
@@ -281,7 +333,7 @@ fn words_by_operators_are_the_least_of_all_trees(rt: HostRuntime) -> Result<(), 
 
 #[test]
 fn words_by_rows_are_the_least_of_all_trees(rt: HostRuntime) -> Result<(), Fail> {
-    for n in 1..6u8 {
+    for n in 1..7u8 {
         for shape in SHAPES {
             let query = query(rt.alloc(), n, shape)?;
             for class in CLASSES {
@@ -289,6 +341,67 @@ fn words_by_rows_are_the_least_of_all_trees(rt: HostRuntime) -> Result<(), Fail>
             }
         }
     }
+    Ok(())
+}
+
+#[test]
+fn words_of_seven_relations_are_the_least_of_all_trees(rt: HostRuntime) -> Result<(), Fail> {
+    let sparse = [
+        Shape::Chain,
+        Shape::Cycle,
+        Shape::Drawn(3),
+        Shape::Drawn(4),
+        Shape::Drawn(5),
+    ];
+    for shape in sparse {
+        let query = query(rt.alloc(), 7, shape)?;
+        for class in CLASSES {
+            assert_eq!(rt; first_fault(rt.alloc(), &Cout, &query, class)?, None);
+        }
+    }
+    Ok(())
+}
+
+// Each list has the pairs of the other.
+fn same_members(one: &[Pair], other: &[Pair]) -> bool {
+    one.len() == other.len() && one.iter().all(|p| other.contains(p))
+}
+
+#[test]
+fn zig_zag_pairs_are_the_thin_ones(rt: HostRuntime) -> Result<(), Fail> {
+    for n in 1..8u8 {
+        for shape in SHAPES {
+            let graph = Graph::of(&query(rt.alloc(), n, shape)?);
+            let thin = collect_pairs(rt.alloc(), &mut Thin::over(DpSub::over(&graph), 1))?;
+            let pairs = collect_pairs(rt.alloc(), &mut ZigZagPairs::over(&graph))?;
+            assert!(rt; same_members(&pairs, &thin));
+        }
+    }
+    Ok(())
+}
+
+// A set of a clique's relations gives a pair by each of them, and a set of two gives one.
+#[test]
+fn zig_zag_pairs_of_a_clique(rt: HostRuntime) -> Result<(), Fail> {
+    for (n, count) in [(2u8, 1usize), (3, 6), (4, 22), (16, 524_152)] {
+        let graph = Graph::of(&query(rt.alloc(), n, Shape::Clique)?);
+        let pairs = collect_pairs(rt.alloc(), &mut ZigZagPairs::over(&graph))?;
+        assert_eq!(rt; pairs.len(), count);
+    }
+    Ok(())
+}
+
+#[test]
+fn zig_zag_pairs_of_a_chain_of_three(rt: HostRuntime) -> Result<(), Fail> {
+    let graph = Graph::of(&query(rt.alloc(), 3, Shape::Chain)?);
+    let mut found = Vec::new(rt.alloc());
+    for p in collect_pairs(rt.alloc(), &mut ZigZagPairs::over(&graph))?.iter() {
+        found.push((p.a.bits(), p.b.bits()))?;
+    }
+    assert_eq!(rt;
+        found.as_slice(),
+        [(1, 2), (2, 4), (1, 6), (3, 4)].as_slice()
+    );
     Ok(())
 }
 
