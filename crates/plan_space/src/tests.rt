@@ -391,6 +391,15 @@ fn zig_zag_pairs_of_a_clique(rt: HostRuntime) -> Result<(), Fail> {
     Ok(())
 }
 
+// Two relations next to each other give a pair, and each longer part of the chain two.
+#[test]
+fn zig_zag_pairs_of_a_chain_of_twenty(rt: HostRuntime) -> Result<(), Fail> {
+    let graph = Graph::of(&query(rt.alloc(), 20, Shape::Chain)?);
+    let pairs = collect_pairs(rt.alloc(), &mut ZigZagPairs::over(&graph))?;
+    assert_eq!(rt; pairs.len(), 361);
+    Ok(())
+}
+
 #[test]
 fn zig_zag_pairs_of_a_chain_of_three(rt: HostRuntime) -> Result<(), Fail> {
     let graph = Graph::of(&query(rt.alloc(), 3, Shape::Chain)?);

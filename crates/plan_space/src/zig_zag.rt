@@ -15,8 +15,9 @@ use std::sync::ledger::Ledger;
 /// The pairs of a graph that have a side of one relation: it goes over the connected sets, ascending as numbers, and takes from
 /// each the relations, ascending, without which it is still connected.
 ///
-/// It makes no pair that it has to skip, so where most pairs have two wider sides it is far quicker than
-/// [`Thin`](crate::Thin) of width 1.
+/// It makes no pair that it has to skip, so where most pairs have two wider sides it is far quicker than [`Thin`](crate::Thin)
+/// of width 1. A query with few predicates has far more sets than connected ones, and this stream tests each: there `Thin` over
+/// an enumerator by the graph is quicker.
 #[derive(Drop)]
 pub struct ZigZagPairs {
     graph: Graph,
