@@ -19,14 +19,14 @@ use Rattle.query_json.specs.declared.refusal.FracPlace.{FracPlace}
 use Rattle.query_json.specs.declared.refusal.FracPlace.TheVariants as place
 use Rattle.query_json.specs.declared.refusal.QueryRefusal.{QueryRefusal}
 use Rattle.query_json.specs.declared.refusal.QueryRefusal.TheVariants.{NoRelations, TooManyRelations, DuplicateAlias, UnknownTable, UnknownAlias, UnknownColumn, SelfJoin, BadFraction, Disconnected}
-use Rattle.query_json.specs.declared.scope.Ends.{Ends}
+use Rattle.query_json.specs.declared.query.scope.Ends.{Ends}
 use Rattle.query_json.specs.Answer.{◌>>=◌}
-use Rattle.query_json.specs.Causes.{Cause, HasABadFilter, HasABadFraction, HasABadSelectivity, HasASelfJoin, HasAnAliasTwice, HasAnUnknownAlias, HasAnUnknownColumn, HasAnUnknownTable, HasNoRelations, HasTooManyRelations, IsDisconnected, IsFirstWith, Never, Refusing, has_unknown_column, has_unknown_end, is_among, is_bad, is_no_alias, is_of_no_table, is_self_join, lacks_column, or_empty, unknown_column, unknown_end, ◌otherwise◌}
+use Rattle.query_json.specs.Queries.Causes.{Cause, HasABadFilter, HasABadFraction, HasABadSelectivity, HasASelfJoin, HasAnAliasTwice, HasAnUnknownAlias, HasAnUnknownColumn, HasAnUnknownTable, HasNoRelations, HasTooManyRelations, IsDisconnected, IsFirstWith, Never, Refusing, has_unknown_column, has_unknown_end, is_among, is_bad, is_no_alias, is_of_no_table, is_self_join, lacks_column, or_empty, unknown_column, unknown_end, ◌otherwise◌}
 use Rattle.query_json.specs.Laws.{IsFirstRefused, TheFirstCauseDecides}
-use Rattle.query_json.specs.Limits.{IsQueryWithin, IsTableWithin}
+use Rattle.query_json.specs.Walk.Limits.{IsQueryWithin, IsTableWithin}
 use Rattle.query_json.specs.Names.{distinct_names}
 use Rattle.query_json.specs.Queries.{alias_at, aliases_of, all_of, apart, checked, count_named, count_of, each_of, ends_of, filter_of, found, fraction_at, most_distinct, named, named_of, or_alias_twice, or_disconnected, pred_of, query_of, rel_of, relation_number, selectivity_over, sized, table_named, table_of}
-use Rattle.query_json.specs.Unreached.{first_unreached}
+use Rattle.query_json.specs.Queries.Unreached.{first_unreached}
 use Rattle.query_json.proofs.Binds.{bind_ok, ok_same}
 use Rattle.query_json.proofs.Finds.{position_map}
 use Rattle.query_json.proofs.LeastPlaces.{err_same, least, least_checked}

@@ -15,7 +15,7 @@ use Rattle.query_json.specs.declared.place.Site.TheVariants as site
 use Rattle.query_json.specs.Answer.{◌>>=◌}
 use Rattle.query_json.specs.Entries.{counted, entries_of, entry_of, or_table_twice, table_names, tables_of}
 use Rattle.query_json.specs.Laws.{TheFirstBrokenPlaceIsTheFault}
-use Rattle.query_json.specs.Places.{AllKeepFormat, IsFirstBroken, Visit, column_visits, is_object, is_there, items_in, join_visits, keeps_format, may_be, must_be, or_no_items, query_visits, relation_visits, table_visits, visit, visits, visits_of}
+use Rattle.query_json.specs.Walk.Places.{AllKeepFormat, IsFirstBroken, Visit, column_visits, is_object, is_there, items_in, join_visits, keeps_format, may_be, must_be, or_no_items, query_visits, relation_visits, table_visits, visit, visits, visits_of}
 use Rattle.query_json.specs.Walk.{as_list, as_name, as_ratio, as_version, as_whole, column_at, columns_at, each, each_given, file_at, file_of, item_count, join_at, json_at, json_of, joins_at, object_at, optional, or_shape, place, present, query_at, relation_at, required, selectivity_at, table_at, where_present}
 
 abbrev fault_of : {X : Type 0} → Result X FileFault → Option FileFault

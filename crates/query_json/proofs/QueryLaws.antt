@@ -25,9 +25,9 @@ use Rattle.query_json.specs.declared.refusal.FracPlace.{FracPlace}
 use Rattle.query_json.specs.declared.refusal.FracPlace.TheVariants as place
 use Rattle.query_json.specs.declared.refusal.QueryRefusal.{QueryRefusal}
 use Rattle.query_json.specs.declared.refusal.QueryRefusal.TheVariants.{BadFraction, SelfJoin, UnknownAlias, UnknownColumn}
-use Rattle.query_json.specs.declared.scope.Ends.{Ends}
+use Rattle.query_json.specs.declared.query.scope.Ends.{Ends}
 use Rattle.query_json.specs.Columns.{distinct_in}
-use Rattle.query_json.specs.Limits.{IsColumnWithin, IsQueryWithin, IsTableWithin}
+use Rattle.query_json.specs.Walk.Limits.{IsColumnWithin, IsQueryWithin, IsTableWithin}
 use Rattle.query_json.specs.Queries.{aliases_of, all_of, apart, checked, count_named, count_of, each_of, ends_of, filter_of, found, fraction_at, most_distinct, pred_of, query_of, rel_of, relation_number, selectivity_over, sized, table_named, table_of}
 use Rattle.query_json.proofs.Binds.{bind_ok, ok_same}
 use Rattle.query_json.proofs.Passes.{length-all_of}

@@ -5,7 +5,7 @@ use Rattle.std.proofs.lemmas.Option.{same_Some}
 use Rattle.query_json.specs.declared.fault.FileFault.TheVariants.{DuplicateTable}
 use Rattle.query_json.specs.declared.refusal.QueryRefusal.TheVariants.{DuplicateAlias}
 use Rattle.query_json.specs.Entries.{or_table_twice}
-use Rattle.query_json.specs.Causes.{IsFirstRepeat, is_among}
+use Rattle.query_json.specs.Queries.Causes.{IsFirstRepeat, is_among}
 use Rattle.query_json.specs.Laws.{DuplicateAliasesByPlace, DuplicateTablesByPlace}
 use Rattle.query_json.specs.Names.{distinct_after, distinct_names}
 use Rattle.query_json.specs.Queries.{or_alias_twice}

@@ -13,7 +13,7 @@ use Rattle.query_json.specs.declared.file.RelationItem.{RelationItem}
 use Rattle.query_json.specs.declared.file.JoinItem.{JoinItem}
 use Rattle.query_json.specs.declared.refusal.QueryRefusal.{QueryRefusal}
 use Rattle.query_json.specs.declared.refusal.QueryRefusal.TheVariants.{UnknownAlias, UnknownTable}
-use Rattle.query_json.specs.declared.scope.Ends.{Ends}
+use Rattle.query_json.specs.declared.query.scope.Ends.{Ends}
 use Rattle.query_json.specs.Columns.{distinct_in}
 use Rattle.query_json.specs.Queries.{count_named, each_of, ends_of, most_distinct, pred_of, pred_over, rel_of, rel_over, relation_number, table_named, table_of}
 use Rattle.query_json.proofs.Binds.{bind_ok, ok_same}

@@ -11,10 +11,10 @@ use Rattle.query_json.specs.declared.file.RelationItem.{RelationItem}
 use Rattle.query_json.specs.declared.file.Table.{Table}
 use Rattle.query_json.specs.declared.refusal.QueryRefusal.{QueryRefusal}
 use Rattle.query_json.specs.Entries.{counted, entries_of, entry_of, part_of, table_names, tables_of}
-use Rattle.query_json.specs.Limits.{IsFileWithin, IsQueryWithin, IsTableWithin}
+use Rattle.query_json.specs.Walk.Limits.{IsFileWithin, IsQueryWithin, IsTableWithin}
 use Rattle.query_json.specs.Queries.{named, named_of, or_disconnected, query_of}
 use Rattle.query_json.specs.Sound.{IsEntrySound, IsPartSound, IsSound}
-use Rattle.query_json.specs.Unreached.{first_unreached}
+use Rattle.query_json.specs.Queries.Unreached.{first_unreached}
 use Rattle.query_json.specs.Walk.{file_of, json_at}
 use Rattle.query_json.proofs.Binds.{bind_ok, ok_same}
 use Rattle.query_json.proofs.QueryLaws.{query_valid}

@@ -16,7 +16,7 @@ use Rattle.serde_json.specs.Read.{max_depth, number_of, of_json, of_items, of_me
 use Rattle.serde_json.proofs.Views.{get_member-put, get_member-put_other}
 use Rattle.query_json.specs.declared.fault.FileFault.TheVariants.{NotJson}
 use Rattle.query_json.specs.Walk.{or_not_json}
-use Rattle.query_json.specs.Tree.{number_data, data_of, items_data, members_data, numbers_fit, items_fit, members_fit, seen, seen_items}
+use Rattle.query_json.specs.Walk.Tree.{number_data, data_of, items_data, members_data, numbers_fit, items_fit, members_fit, seen, seen_items}
 
 -- ---- what serde_json makes of a tree
 

@@ -20,7 +20,7 @@ use Rattle.join_graph.proofs.Crossings.{edge_iff}
 use Rattle.join_graph.proofs.Edges.{graph_is}
 use Rattle.join_graph.proofs.GraphLaws.{crossed_back}
 use Rattle.query_json.specs.Laws.{FirstUnreachedByWalks}
-use Rattle.query_json.specs.Unreached.{is_closed, parts_from, is_unreached, first_unreached}
+use Rattle.query_json.specs.Queries.Unreached.{is_closed, parts_from, is_unreached, first_unreached}
 
 -- ---- walks stay in a set that no predicate leads out of
 

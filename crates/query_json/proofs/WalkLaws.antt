@@ -17,7 +17,7 @@ use Rattle.query_json.specs.declared.fault.FileFault.{FileFault}
 use Rattle.query_json.specs.declared.place.Site.TheVariants as site
 use Rattle.query_json.specs.declared.place.Place.{Place}
 use Rattle.query_json.specs.Answer.{Gives}
-use Rattle.query_json.specs.Limits.{IsColumnWithin, IsTableWithin, IsQueryWithin, IsFileWithin}
+use Rattle.query_json.specs.Walk.Limits.{IsColumnWithin, IsTableWithin, IsQueryWithin, IsFileWithin}
 use Rattle.query_json.specs.Walk.{as_list, as_name, as_whole, column_at, columns_at, each, each_given, file_at, item_count, join_at, joins_at, object_at, optional, or_shape, place, present, query_at, relation_at, required, table_at, version_at, where_present}
 use Rattle.query_json.proofs.Binds.{bind_ok, ok_same, kept}
 

@@ -14,13 +14,13 @@ use Rattle.dpe_base.specs.Sets.{full}
 use Rattle.join_graph.specs.Graphs.{Connected, IsFirstUnreached, graph_of}
 use Rattle.query_json.specs.declared.entry.Entry.{Entry}
 use Rattle.query_json.specs.declared.entry.Named.{Named}
-use Rattle.query_json.specs.Causes.{IsFirstRepeat, Never, Refusing}
+use Rattle.query_json.specs.Queries.Causes.{IsFirstRepeat, Never, Refusing}
 use Rattle.query_json.specs.Entries.{entries_of, table_names}
-use Rattle.query_json.specs.Limits.{IsQueryWithin, IsTableWithin}
-use Rattle.query_json.specs.Places.{AllKeepFormat, IsFirstBroken, visits}
+use Rattle.query_json.specs.Walk.Limits.{IsQueryWithin, IsTableWithin}
+use Rattle.query_json.specs.Walk.Places.{AllKeepFormat, IsFirstBroken, visits}
 use Rattle.query_json.specs.Queries.{aliases_of, all_of, apart, checked, each_of, ends_of, most_distinct, named_of, pred_of, query_of, rel_of, sized, table_of}
 use Rattle.query_json.specs.Sound.{IsEntrySound}
-use Rattle.query_json.specs.Unreached.{first_unreached}
+use Rattle.query_json.specs.Queries.Unreached.{first_unreached}
 use Rattle.query_json.specs.Walk.{file_of, json_of}
 use Rattle.serde_json.specs.Data.{Data}
 

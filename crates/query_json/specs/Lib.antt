@@ -1,15 +1,9 @@
 pub mod Answer
-pub mod Causes
 pub mod Columns
 pub mod Entries
 pub mod Laws
-pub mod Limits
 pub mod Names
-pub mod Places
 pub mod Queries
-pub mod Scope
 pub mod Sound
 pub mod Texts
-pub mod Tree
-pub mod Unreached
 pub mod Walk

@@ -1,4 +1,7 @@
 -- What a query of the file means, and what it is refused for: the first cause in order, and in it the least index.
+pub mod Causes
+pub mod Scope
+pub mod Unreached
 use Rattle.std.specs.Prelude.{ℕ, ◌+◌, ◌==◌, min, max, List, [], ◌∷◌, length, map, find, position, slice_get, nat_lt, if◌then◌else◌, Option, Some, None, option_and_then, Result, Ok, Err}
 use Rattle.std.specs.Str.{bytes_eq}
 use Rattle.dpe_base.specs.declared.TheConstants.{N_MAX}
@@ -15,11 +18,11 @@ use Rattle.query_json.specs.declared.refusal.FracPlace.{FracPlace}
 use Rattle.query_json.specs.declared.refusal.FracPlace.TheVariants as place
 use Rattle.query_json.specs.declared.refusal.QueryRefusal.{QueryRefusal}
 use Rattle.query_json.specs.declared.refusal.QueryRefusal.TheVariants.{NoRelations, TooManyRelations, DuplicateAlias, UnknownTable, UnknownAlias, UnknownColumn, SelfJoin, BadFraction, Disconnected}
-use Rattle.query_json.specs.declared.scope.Ends.{Ends}
+use Rattle.query_json.specs.declared.query.scope.Ends.{Ends}
 use Rattle.query_json.specs.Answer.{◌>>=◌}
 use Rattle.query_json.specs.Columns.{distinct_in}
 use Rattle.query_json.specs.Names.{distinct_names}
-use Rattle.query_json.specs.Unreached.{first_unreached}
+use Rattle.query_json.specs.Queries.Unreached.{first_unreached}
 
 -- what each member gives, in turn and by its number, or the first refusal
 abbrev pub all_of : {A B : Type 0} → (ℕ → A → Result B QueryRefusal) → ℕ → List A → Result (List B) QueryRefusal

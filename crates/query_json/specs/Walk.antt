@@ -1,4 +1,7 @@
 -- The walk of a workload file: what stands at each site, and the first place that breaks the format.
+pub mod Limits
+pub mod Places
+pub mod Tree
 use Rattle.std.specs.Prelude.{ℕ, ◌+◌, ◌&&◌, ◌||◌, ◌==◌, not, nat_le, List, [], ◌∷◌, length, Bool, if◌then◌else◌, Option, Some, None, option_and_then, option_map, is_some, Result, Ok, Err, codes}
 use Rattle.std.specs.List.{list_all}
 use Rattle.dpe_base.specs.declared.TheConstants.{INPUT_CAP, PREDS_MAX}

@@ -1,32 +1,26 @@
 //! The workload file: where it breaks the format, and the queries that it holds, each accepted or refused.
 //!
-//! Begin at [`read`], which has three steps. The bytes become a tree of JSON over the file's own text (`tree.rt`). The walk
-//! (`walk.rt`, `fields.rt`) goes through it site by site and stops at the first place that breaks the format; `file.rt` is what
-//! it finds, with no name looked up. Then each query is looked up over the tables (`entries.rt`, `query.rt`, `scope.rt`): every
-//! name once, pass by pass, so that the first refusal in the order of [`QueryRefusal`] decides. `specs/Entries` says the same
-//! in a page; what holds of each accepted entry, and in what sense a fault or a refusal is the first, stands in [`laws`].
+//! Begin at [`read`], which has three steps. The bytes become a tree of JSON over the file's own text (`walk/tree.rt`). The walk
+//! (`walk.rt`) goes through it site by site and stops at the first place that breaks the format; `file.rt` is what it finds,
+//! with no name looked up. Then each query is looked up over the tables (`tables.rt`, `query.rt`): every name once, pass by
+//! pass, so that the first refusal in the order of [`QueryRefusal`] decides. `specs/Entries` says the same in a page; what holds
+//! of each accepted entry, and in what sense a fault or a refusal is the first, stands in [`laws`].
 #![tactic(auto)]
 
-mod entries;
 mod entry;
 mod fault;
-mod fields;
 mod file;
 mod items;
-mod known_table;
 mod label;
 pub mod laws;
 mod names;
-mod number;
 mod place;
 mod query;
 mod refusal;
-mod scope;
 mod tables;
 #[cfg(test)]
 mod tests;
 mod text;
-mod tree;
 mod walk;
 mod workload;
 

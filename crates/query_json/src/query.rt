@@ -3,12 +3,15 @@ ghost use Rattle.std.specs.Prelude.{◌<◌, map};
 ghost use Rattle.query_json.specs.Answer.{Tells};
 ghost use Rattle.query_json.specs.Queries.{aliases_of, apart, checked, each_of, filter_of, fraction_at, pred_over, rel_over, selectivity_over, sized, table_of};
 
+pub mod entries;
+pub mod scope;
+
 use crate::file::{JoinItem, Ratio, RelationItem};
-use crate::known_table::KnownTable;
 use crate::names::{HasName, Repeat, distinct};
+use crate::query::scope::Ends;
 use crate::refusal::{FracPlace, QueryRefusal, Stop};
-use crate::scope::Ends;
 use crate::tables::Tables;
+use crate::tables::known_table::KnownTable;
 use dpe_base::{INPUT_CAP, N_MAX, Pred, Rel};
 use indexmap::IndexSet;
 use std::alloc::Global;

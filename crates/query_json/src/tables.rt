@@ -4,10 +4,12 @@ ghost use Rattle.query_json.specs.Entries.{table_names, tables_of};
 ghost use Rattle.query_json.specs.Answer.{Gives, GivesBy};
 ghost use Rattle.query_json.specs.Queries.{table_named};
 
+pub mod known_table;
+
 use crate::fault::FileFault;
 use crate::file::Table;
-use crate::known_table::KnownTable;
 use crate::names::{HasName, Repeat, distinct, place_of};
+use crate::tables::known_table::KnownTable;
 use indexmap::IndexSet;
 use std::alloc::{AllocError, Global};
 use std::marker::Model;

@@ -3,20 +3,24 @@ ghost use Rattle.std.specs.Prelude.{◌≡◌, ℕ, IfOk, Result, option_map};
 ghost use Rattle.serde_json.specs.Data.{Data};
 ghost use Rattle.query_json.specs.declared.fault.FileFault.{FileFault};
 ghost use Rattle.query_json.specs.Answer.{Gives};
-ghost use Rattle.query_json.specs.Limits.{IsFileWithin};
-ghost use Rattle.query_json.specs.Tree.{seen, seen_items};
+ghost use Rattle.query_json.specs.Walk.Limits.{IsFileWithin};
+ghost use Rattle.query_json.specs.Walk.Tree.{seen, seen_items};
 ghost use Rattle.query_json.specs.Walk.{each, column_at, columns_at, table_at, relation_at, selectivity_at, join_at, joins_at, query_at, file_at, file_of};
+
+mod fields;
+mod number;
+mod tree;
 
 use crate::COLUMNS_MAX;
 use crate::fault::FileFault;
-use crate::fields::{
-    array_of, name_of, object_of, optional_array_of, optional_name_of, optional_ratio_of,
-    version_of, whole_of,
-};
 use crate::file::{Column, File, JoinItem, QueryItem, Ratio, RelationItem, Table};
 use crate::items::Items;
 use crate::place::{Place, Site};
-use crate::tree::{member, tree_of};
+use crate::walk::fields::{
+    array_of, name_of, object_of, optional_array_of, optional_name_of, optional_ratio_of,
+    version_of, whole_of,
+};
+use crate::walk::tree::{member, tree_of};
 use dpe_base::{INPUT_CAP, PREDS_MAX};
 use json::{Scratch, Value};
 use std::alloc::Global;

@@ -4,11 +4,11 @@ ghost use Rattle.query_json.specs.Answer.{Gives};
 ghost use Rattle.query_json.specs.Entries.{counted, entries_of};
 ghost use Rattle.query_json.specs.Sound.{IsEntrySound};
 
-use crate::entries::entries_of;
 use crate::entry::Entry;
 use crate::fault::FileFault;
 use crate::file::File;
 use crate::items::Items;
+use crate::query::entries::entries_of;
 use crate::tables::Tables;
 use crate::walk::file_of;
 use crate::{QUERIES_MAX, TABLES_MAX};

@@ -8,7 +8,7 @@ use Rattle.std.specs.List.{list_all, range_with_len}
 use Rattle.dpe_base.specs.declared.query.Pred.{Pred}
 use Rattle.dpe_base.specs.Queries.{JoinQuery, relations}
 use Rattle.dpe_base.specs.Sets.{Has, member}
-use Rattle.query_json.specs.Unreached.{first_unreached, is_closed, is_unreached, parts_from}
+use Rattle.query_json.specs.Queries.Unreached.{first_unreached, is_closed, is_unreached, parts_from}
 use Rattle.workload_gen.specs.declared.sample.Join.{Join}
 use Rattle.workload_gen.proofs.Accepted.{Both, HasEnds}
 use Rattle.workload_gen.proofs.Valid.{EachFrom, IsTreeJoin}

@@ -18,7 +18,7 @@ use Rattle.query_json.specs.declared.entry.Named.{Named}
 use Rattle.query_json.specs.declared.file.RelationItem.{RelationItem}
 use Rattle.query_json.specs.Entries.{counted, entries_of, entry_of}
 use Rattle.query_json.specs.Queries.{apart, checked, ends_of, most_distinct, named_of, pred_of, query_of, rel_of, sized, table_of}
-use Rattle.query_json.specs.Unreached.{first_unreached}
+use Rattle.query_json.specs.Queries.Unreached.{first_unreached}
 use Rattle.query_json.specs.Walk.{file_of, json_at}
 use Rattle.workload_gen.specs.declared.sample.Table.{Table}
 use Rattle.workload_gen.specs.declared.sample.Relation.{Relation}

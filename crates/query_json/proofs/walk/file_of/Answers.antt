@@ -1,4 +1,4 @@
-use Rattle.query_json.specs.Tree.{seen}
+use Rattle.query_json.specs.Walk.Tree.{seen}
 use Rattle.query_json.proofs.WalkLaws.{given_within}
 use Rattle.query_json.proofs.walk.file_of.Goals as goal
 
