@@ -14,7 +14,7 @@ use Rattle.reorder_buffer.specs.declared.TheConstants.{SIZES}
 use Rattle.reorder_buffer.specs.Buffers.{AreSmall}
 use Rattle.reorder_buffer.specs.Groups.{union_size, group_of, groups_below}
 use Rattle.dpe_engine.specs.Rounds.{MayWorkRound, HasWorkedRound}
-use Rattle.dpe_engine.specs.declared.shared.Shared.{Shared}
+use Rattle.dpe_engine.specs.declared.run.shared.Shared.{Shared}
 use Rattle.dpe_engine.specs.Between.{below, IsBetween, IsShared}
 use Rattle.dpe_engine.proofs.PairSteps.{stays_settled}
 use Rattle.dpe_engine.proofs.Bursts.{more_done}

@@ -14,7 +14,7 @@ use Rattle.memo_table.specs.declared.view.View.{View}
 use Rattle.memo_table.specs.Finishing.{IsLeastBound}
 use Rattle.memo_table.specs.Seats.{SeatView, IsSeatOf, BoundsAreMade, Settled}
 use Rattle.memo_table.specs.Views.{EachOnceBelow, once_below, with_floor}
-use Rattle.dpe_engine.specs.declared.shared.Shared.{Shared}
+use Rattle.dpe_engine.specs.declared.run.shared.Shared.{Shared}
 use Rattle.dpe_engine.specs.Engines.{IsLeastWord}
 use Rattle.dpe_engine.specs.Between.{IsBetween, IsShared}
 use Rattle.dpe_engine.proofs.PairSteps.{stays_settled}

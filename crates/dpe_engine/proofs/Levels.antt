@@ -10,7 +10,7 @@ use Rattle.pair_stream.specs.Orders.{Complete, Ordered}
 use Rattle.join_tree.proofs.TreeLaws.{connected_size_some}
 use Rattle.memo_table.specs.Seats.{SeatView}
 use Rattle.reorder_buffer.specs.Groups.{union_size, group_of}
-use Rattle.dpe_engine.specs.declared.shared.Shared.{Shared}
+use Rattle.dpe_engine.specs.declared.run.shared.Shared.{Shared}
 use Rattle.dpe_engine.specs.Between.{below, IsBetween, IsShared}
 use Rattle.dpe_engine.proofs.Places.{in_below}
 use Rattle.dpe_engine.proofs.Members.{union_size_is}

@@ -10,9 +10,9 @@ use Rattle.dpe_base.specs.Queries.{relations}
 use Rattle.reorder_buffer.specs.Buffers.{BufferedPairs}
 use Rattle.reorder_buffer.specs.Groups.{groups, groups_below, runs, rounds}
 use Rattle.reorder_buffer.proofs.RunLaws.{runs-none, taken_is_run}
-use Rattle.dpe_engine.specs.declared.shared.Shared.{Shared}
-use Rattle.dpe_engine.specs.declared.producer.Producer.{Producer}
-use Rattle.dpe_engine.specs.declared.consumer.Consumer.{Consumer}
+use Rattle.dpe_engine.specs.declared.run.shared.Shared.{Shared}
+use Rattle.dpe_engine.specs.declared.run.producer.Producer.{Producer}
+use Rattle.dpe_engine.specs.declared.run.consumer.Consumer.{Consumer}
 use Rattle.dpe_engine.specs.declared.engine.Solved.{Solved}
 use Rattle.dpe_engine.specs.Engines.{EnginePlan, IsSolved}
 use Rattle.dpe_engine.specs.Between.{plan_of, IsBetween, IsShared, HasWorkedBuffer, IsFilled, IsRunning, HasEnded, IsPrepared}

@@ -11,9 +11,9 @@ use Rattle.memo_table.specs.Seats.{SeatView, IsSeatOf, BoundsAreMade, Settled}
 use Rattle.memo_table.specs.Views.{EachOnceBelow}
 use Rattle.reorder_buffer.specs.Buffers.{BufferedPairs}
 use Rattle.reorder_buffer.specs.Groups.{union_size, groups, runs, rounds}
-use Rattle.dpe_engine.specs.declared.shared.Shared.{Shared}
-use Rattle.dpe_engine.specs.declared.producer.Producer.{Producer}
-use Rattle.dpe_engine.specs.declared.consumer.Consumer.{Consumer}
+use Rattle.dpe_engine.specs.declared.run.shared.Shared.{Shared}
+use Rattle.dpe_engine.specs.declared.run.producer.Producer.{Producer}
+use Rattle.dpe_engine.specs.declared.run.consumer.Consumer.{Consumer}
 use Rattle.dpe_engine.specs.Working.{IsMemoOfQuery, IsDone}
 use Rattle.dpe_engine.specs.Engines.{EnginePlan}
 

@@ -8,12 +8,12 @@ ghost use Rattle.reorder_buffer.specs.Groups.{runs, rounds};
 ghost use Rattle.dpe_engine.specs.Engines.{AreLeastWords, EnginePlan, IsSolved};
 ghost use Rattle.dpe_engine.specs.Between.{plan_of, HasEnded};
 
-use crate::alone;
-use crate::consumer::Consumer;
 use crate::gate::Gate;
-use crate::pipeline::{exchange, work_all};
-use crate::producer::Producer;
-use crate::shared::Shared;
+use crate::run::alone;
+use crate::run::consumer::Consumer;
+use crate::run::pipeline::{exchange, work_all};
+use crate::run::producer::Producer;
+use crate::run::shared::Shared;
 use card_scaled::CardTable;
 use cost_model::CostModel;
 use dpe_base::{BUFFER_MAX, N_MAX, Query, WORKERS_MAX};

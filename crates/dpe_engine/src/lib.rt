@@ -7,17 +7,11 @@
 //! buffer to buffer, in `pipeline` or in `alone`). `threads` decides what goes to threads of its own.
 #![tactic(auto)]
 
-mod alone;
-mod consumer;
-mod crew;
 mod engine;
 mod gate;
-mod pipeline;
-mod producer;
-mod shared;
+mod run;
 #[cfg(test)]
 mod tests;
-mod threads;
 mod whole_round;
 mod worker;
 

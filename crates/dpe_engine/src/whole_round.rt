@@ -5,11 +5,13 @@ ghost use Rattle.memo_table.specs.Seats.{SeatView, IsSeatOf};
 ghost use Rattle.dpe_engine.specs.Working.{IsMemoOfQuery, IsReady, HasWorked};
 ghost use Rattle.dpe_engine.specs.Rounds.{MayWorkRound, HasOpenedRound, HaveWorked, HasWorkedRound};
 
-use crate::crew::{gather, split_off};
+mod crew;
+
 use crate::gate::Gate;
 use crate::worker::work;
 use card_scaled::CardTable;
 use cost_model::CostModel;
+use crew::{gather, split_off};
 use dpe_base::{Pair, WORKERS_MAX};
 use memo_table::{Memo, MemoSeat};
 use std::thread;

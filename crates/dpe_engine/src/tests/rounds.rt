@@ -5,8 +5,8 @@ ghost use Rattle.reorder_buffer.specs.Groups.{group_of};
 ghost use Rattle.dpe_engine.specs.Between.{below, IsBetween, IsShared, HasFreeCrew};
 
 use super::fixtures::{CHAIN_OF_FOUR, Meeting, Shape, query_of_ones};
-use crate::consumer::Consumer;
-use crate::shared::Shared;
+use crate::run::consumer::Consumer;
+use crate::run::shared::Shared;
 use crate::{Gate, round};
 use card_scaled::CardTable;
 use cost_model::Ops;
