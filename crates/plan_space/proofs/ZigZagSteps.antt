@@ -6,7 +6,7 @@ use Rattle.std.proofs.lemmas.Bool.{cond-true, cond-false, false_from_ne_true}
 use Rattle.dpe_base.specs.declared.TheConstants.{N_MAX}
 use Rattle.dpe_base.specs.declared.pair.Pair.{Pair}
 use Rattle.dpe_base.specs.Sets.{Has, Within, IsLeast, minus, single, full, least, size}
-use Rattle.dpe_base.proofs.SetLaws.{minus_left, has_some, least_same}
+use Rattle.dpe_base.proofs.SetLaws.{has_some, least_same}
 use Rattle.join_graph.specs.Graphs.{JoinGraph, IsGraph, Connected, pair_of}
 use Rattle.pair_stream.specs.Connectivity.{is_connected}
 use Rattle.pair_stream.specs.Orders.{Ordered}
@@ -157,9 +157,6 @@ pub by_code : (g : JoinGraph) (s r one rest : ℕ) (b : Bool) → IsGraph g → 
 by_code g s r one rest b ok has counts e f both =
     let is : rest ≡ minus s (single r) = f ∙ ap (minus s) e in
     by_rest g s r b ok has counts (λ t. subst (Connected g) is (both.0 t), λ c. both.1 (subst (Connected g) (sym is) c))
-
-pub rest_in : (s one rest n : ℕ) → Within s (full n) → rest ≡ minus s one → Within rest (full n)
-rest_in s one rest n known e k h = known k (minus_left s one k (subst (λ x. Has x k) e h))
 
 pub taken_has : (g : JoinGraph) (s r : ℕ) → IsGraph g → true ≡ can_be_taken g s r → Has s r
 taken_has g s r ok t = ((can_be_taken_true g ok s r).0 (sym t)).0
