@@ -349,6 +349,7 @@ fn words_of_seven_relations_are_the_least_of_all_trees(rt: HostRuntime) -> Resul
     let sparse = [
         Shape::Chain,
         Shape::Cycle,
+        Shape::Star,
         Shape::Drawn(3),
         Shape::Drawn(4),
         Shape::Drawn(5),
