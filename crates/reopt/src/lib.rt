@@ -1,6 +1,7 @@
 //! Planning again after the rows of one relation have changed.
 #![tactic(auto)]
 
+pub mod laws;
 mod touching;
 
 pub use touching::Touching;
