@@ -1,10 +1,14 @@
 -- The laws of the crate.
-use Rattle.std.specs.Prelude.{◌≡◌, ◌↔◌, ℕ}
-use Rattle.dpe_base.specs.Queries.{JoinQuery, with_rows}
-use Rattle.dpe_base.specs.Sets.{Has}
-use Rattle.join_graph.specs.Graphs.{graph_of}
+use Rattle.std.specs.Prelude.{◌≡◌, ◌↔◌, ℕ, ◌^◌, List, length}
+use Rattle.dpe_base.specs.declared.pair.Pair.{Pair}
+use Rattle.dpe_base.specs.Queries.{JoinQuery, IsQuery, relations, with_rows}
+use Rattle.dpe_base.specs.Sets.{Has, full}
+use Rattle.join_graph.specs.Graphs.{Connected, graph_of}
 use Rattle.card_scaled.specs.Cards.{rows}
 use Rattle.join_tree.specs.Trees.{JoinTree, set_of, cost, Legal, Best}
+use Rattle.pair_stream.specs.Orders.{Complete}
+use Rattle.dpe_engine.specs.Engines.{AreLeastWords}
+use Rattle.reopt.specs.Keeping.{AreBestWords}
 
 -- what stays of the set s, where relation r has n rows instead of those in q
 pub record Stays (kind : ℕ) (q : JoinQuery) (r n s : ℕ) : Type 0 where
@@ -16,3 +20,9 @@ pub record Stays (kind : ℕ) (q : JoinQuery) (r n s : ℕ) : Type 0 where
 -- A set without r keeps its rows, its legal trees with their costs, and its best word.
 abbrev pub OtherSetsStay : Type 0
 OtherSetsStay = (kind : ℕ) (q : JoinQuery) (r n s : ℕ) → (Has s r → ⊥) → Stays kind q r n s
+
+-- Of a connected query the least words over a list of all pairs are what is kept.
+abbrev pub LeastWordsCanBeKept : Type 0
+LeastWordsCanBeKept =
+    (kind : ℕ) (q : JoinQuery) (pairs : List Pair) (row : List ℕ) → IsQuery q → Connected (graph_of q) (full (relations q)) → Complete (graph_of q) pairs
+    → length row ≡ 2 ^ relations q → AreLeastWords kind q pairs row → AreBestWords kind q row

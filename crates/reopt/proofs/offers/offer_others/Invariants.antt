@@ -1,0 +1,5 @@
+use Rattle.reopt.specs.Offers.{HasOffered}
+use Rattle.reopt.proofs.offers.offer_others.Given as goal
+
+abbrev pub invariant-sets : goal.invariant-sets
+invariant-sets g l = HasOffered l.memo l.r l.words l.fn.seat l.seat l.bits
