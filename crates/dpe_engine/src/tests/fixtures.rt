@@ -190,7 +190,7 @@ pub fn solve_by_dpsize<G: Gate, R: Threads + Sync>(
 // ---- gates
 
 // How often one worker looks for the others before it goes on alone.
-const TURNS: u64 = 100_000_000;
+const TURNS: u64 = 10_000_000_000;
 
 // So many counters of 0.
 fn counters(alloc: Global, count: u64) -> Result<Vec<AtomicU64>, AllocError> {

@@ -4,7 +4,7 @@ use std::alloc::{AllocError, Global};
 use std::sync::atomic::{AtomicBool, AtomicU64, Ordering};
 
 /// How often one who came looks for the others before it goes on alone.
-const TURNS: u64 = 100_000_000;
+const TURNS: u64 = 10_000_000_000;
 
 /// How often each number was noted.
 #[derive(Drop)]
