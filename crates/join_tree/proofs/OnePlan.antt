@@ -17,10 +17,10 @@ same_root model q op op' l r l' r' ok m n a b e =
     digits_same : (c o s c' o' s' : ℕ) → o < 3 → o' < 3 → s < SPAN → s' < SPAN → c * (4 * SPAN) + o * SPAN + s ≡ c' * (4 * SPAN) + o' * SPAN + s' → (o ≡ o') × (s ≡ s')
     digits_same c o s c' o' s' p p' l l' e = (omega arith, omega arith)
 
-single_same : (r k : ℕ) → single r ≡ single k → r ≡ k
+pub single_same : (r k : ℕ) → single r ≡ single k → r ≡ k
 single_same r k e = grind (arith, sets, member-same e r)
 
-other_side : (a x y : ℕ) → Disjoint a x → Disjoint a y → union a x ≡ union a y → x ≡ y
+pub other_side : (a x y : ℕ) → Disjoint a x → Disjoint a y → union a x ≡ union a y → x ≡ y
 other_side a x y d f e = same_set _ _ (λ r. grind (arith, sets, member-same e r))
 
 -- a leaf and a join have no word in common

@@ -15,5 +15,5 @@ mod plan;
 mod tests;
 mod tree;
 
-pub use plan::build;
+pub use plan::{build, tree_of_words};
 pub use tree::Tree;

@@ -1,49 +1,23 @@
 //! The plan of a set of relations, read from words.
-ghost use Rattle.std.specs.Prelude.{◌≡◌, ◌≢◌, ◌^◌, length, IfOk, MatchOption};
+ghost use Rattle.std.specs.Prelude.{◌≡◌, ◌≢◌, ◌<◌, ◌^◌, length, IfOk, MatchOption};
 ghost use Rattle.dpe_base.specs.Queries.{relations};
 ghost use Rattle.dpe_base.specs.Sets.{size, single};
 ghost use Rattle.join_graph.specs.Graphs.{Connected, graph_of};
-ghost use Rattle.join_tree.specs.Trees.{Plan, join};
+ghost use Rattle.join_tree.specs.Trees.{JoinTree, Plan, join};
 ghost use Rattle.join_tree.specs.TreeOf.{tree_of};
-ghost use Rattle.join_tree.specs.Words.{HasBestWords, IsRoot};
+ghost use Rattle.join_tree.specs.Words.{HasBestWords, IsNamed};
 
 use crate::tree::Tree;
 use cost_model::{CostModel, Word};
 use dpe_base::{Query, RelSet};
 use std::alloc::{AllocError, Global};
 
-// The root of a plan: its operator, and the sets of its two sides.
-#[derive(Clone, Copy)]
-struct Root {
-    op: u8,
-    left: RelSet,
-    right: RelSet,
-}
-
 // The only relation of the set, where it has one.
-#[tactic(auto, using(crate::proofs::Roots::least_alone, crate::proofs::Roots::none_alone))]
+#[tactic(auto, using(crate::proofs::NamedTrees::least_alone, crate::proofs::NamedTrees::none_alone))]
 fn alone(s: RelSet) -> Option<u8>
     ensures { MatchOption result (size s ≢ 1) (λ r. s ≡ single r) }
 {
     if s.len() == 1 { s.least() } else { None }
-}
-
-// The root that the word of `s` names.
-fn root_of<M: CostModel>(query: &Query, words: &[u64], s: RelSet) -> Root
-    requires sized { length words.now ≡ 2 ^ relations query.now }
-    requires connected { Connected (graph_of query.now) s }
-    requires best { HasBestWords M.KIND query.now words.now s }
-    requires many { size s ≢ 1 }
-    ensures { IsRoot M.KIND query.now s result }
-{
-    let _n = query.n();
-    let word = Word::of_bits(words[s.bits() as usize]);
-    let left = word.left();
-    Root {
-        op: word.op(),
-        left,
-        right: s.minus(left),
-    }
 }
 
 fn joined(alloc: Global, op: u8, left: Tree, right: Tree) -> Result<Tree, AllocError>
@@ -54,6 +28,27 @@ fn joined(alloc: Global, op: u8, left: Tree, right: Tree) -> Result<Tree, AllocE
         left: Box::new(alloc, left)?,
         right: Box::new(alloc, right)?,
     })
+}
+
+/// The one tree over `s` that the words name: at each set of several relations the word has the operator and the left side of the
+/// tree's join over that set.
+///
+/// Fails where there is no memory.
+pub fn tree_of_words(alloc: Global, words: &[u64], s: RelSet) -> Result<Tree, AllocError>
+    requires known { s < length words.now }
+    requires some { (t : JoinTree) × IsNamed words.now s t }
+    ensures { IfOk result (λ t. (u : JoinTree) → IsNamed words.now s u → u ≡ tree_of t) }
+{
+    if let Some(r) = alone(s) {
+        return Ok(Tree::Leaf(r));
+    }
+    let word = Word::of_bits(words[s.bits() as usize]);
+    let left = word.left();
+    let right = s.minus(left);
+    let first = tree_of_words(alloc, words, left)?;
+    let second = tree_of_words(alloc, words, right)?;
+    let tree = joined(alloc, word.op(), first, second)?;
+    Ok(tree)
 }
 
 /// The plan of the relations of `s`: the word of each set names the operator and the left side of its root.
@@ -71,11 +66,7 @@ pub fn build<M: CostModel>(
     requires best { HasBestWords M.KIND query.now words.now s }
     ensures { IfOk result (λ t. Plan M.KIND query.now s (tree_of t)) }
 {
-    if let Some(r) = alone(s) {
-        return Ok(Tree::Leaf(r));
-    }
-    let root = root_of::<M>(query, words, s);
-    let left = build(alloc, query, model, words, root.left)?;
-    let right = build(alloc, query, model, words, root.right)?;
-    joined(alloc, root.op, left, right)
+    query.recall();
+    let tree = tree_of_words(alloc, words, s)?;
+    Ok(tree)
 }
