@@ -2,17 +2,18 @@
 use Rattle.std.proofs.Common.{◌≡◌, ◌≢◌, ◌↔◌, ℕ, suc, ◌≤◌, inl, inr, arith, sym, ap, subst, map}
 use Rattle.std.specs.List.{AllPairs, Contains}
 use Rattle.dpe_base.specs.declared.pair.Pair.{Pair}
-use Rattle.dpe_base.specs.Sets.{Has, Within, Disjoint, IsLeast, union, full, least}
+use Rattle.dpe_base.specs.Sets.{Has, Disjoint, IsLeast, union, full, least}
 use Rattle.dpe_base.proofs.SetLaws.{full_has, full_limit, union_left, union_right, union_cases, union_within}
 use Rattle.dpe_base.proofs.SizeLaws.{union_some}
 use Rattle.join_graph.specs.Graphs.{JoinGraph, IsGraph, Connected, Pairs, pair_of}
 use Rattle.pair_stream.specs.Orders.{Ordered, Complete}
-use Rattle.pair_stream.proofs.Lists.{contains_map, contains_from_map, contains_flat_map, contains_from_flat_map, pairs_map, pairs_flat_map, pairs_weaker}
+use Rattle.pair_stream.proofs.Lists.{contains_map, contains_from_map, contains_flat_map, contains_from_flat_map, pairs_map, pairs_flat_map}
 use Rattle.pair_stream.proofs.SubsetLaws.{least_is}
 use Rattle.pair_stream.proofs.ConnectivityLaws.{connected_least}
 use Rattle.pair_stream.proofs.OrderLaws.{MayPrecede, union_not_left, complete_from, ordered_from}
 use Rattle.enum_dpccp.specs.Dpccp.{first_sides, second_sides, excluded, seq_dpccp}
-use Rattle.enum_dpccp.proofs.SideLaws.{FirstOrder, IsSecondSide, first_has, first_order, second_has, second_once}
+use Rattle.connected_sets.proofs.GrownLaws.{ByLeast, sets_has, sets_order}
+use Rattle.enum_dpccp.proofs.SideLaws.{IsSecondSide, second_has, second_once}
 
 excluded_least : (a r : ℕ) → r ≤ least a → Has (excluded a) r
 excluded_least a r l = union_left (full (suc (least a))) a r (full_has (suc (least a)) r (omega arith))
@@ -70,22 +71,18 @@ module _ (g : JoinGraph) (ok : IsGraph g) where
   pub second_pairs : (a b : ℕ) → Connected g a → Contains (second_sides g a) b ↔ Pairs g (pair_of a b)
   second_pairs a b c = (λ h. pair_from a b c ((second_has g ok a b).0 h), λ p. (second_has g ok a b).1 (pair_second (pair_of a b) p))
 
-  -- no first side stands twice
-  pub first_once : AllPairs (λ a b. a ≢ b) (first_sides g)
-  first_once = pairs_weaker (λ a b. a ≢ b) (FirstOrder g ok) (first_sides g) (first_order g ok) (λ a b ma mb w e. w.0 (subst (λ k. Within k a) e (λ r h. h)))
-
   pub ccp_sound : (p : Pair) → Contains (seq_dpccp g) p → Pairs g p
   unfolding seq_dpccp
   ccp_sound p h =
       let a : (a : ℕ) × Contains (first_sides g) a × Contains (map (pair_of a) (second_sides g a)) p =
       contains_from_flat_map (λ a. map (pair_of a) (second_sides g a)) (first_sides g) p h in
       let b : (b : ℕ) × Contains (second_sides g a.0) b × (pair_of a.0 b ≡ p) = contains_from_map (pair_of a.0) (second_sides g a.0) p a.2 in
-      subst (Pairs g) b.2 (pair_from a.0 b.0 ((first_has g ok a.0).0 a.1) ((second_has g ok a.0 b.0).0 b.1))
+      subst (Pairs g) b.2 (pair_from a.0 b.0 ((sets_has g ok a.0).0 a.1) ((second_has g ok a.0 b.0).0 b.1))
 
   pub ccp_complete : (p : Pair) → Pairs g p → Contains (seq_dpccp g) p
   unfolding seq_dpccp
   ccp_complete p h =
-      contains_flat_map (λ a. map (pair_of a) (second_sides g a)) (first_sides g) p.a p ((first_has g ok p.a).1 h.first)
+      contains_flat_map (λ a. map (pair_of a) (second_sides g a)) (first_sides g) p.a p ((sets_has g ok p.a).1 h.first)
       (contains_map (pair_of p.a) (second_sides g p.a) p.b ((second_has g ok p.a p.b).1 (pair_second p h)))
 
   -- two pairs with one first side
@@ -100,7 +97,7 @@ module _ (g : JoinGraph) (ok : IsGraph g) where
   )
 
   -- two pairs with two first sides
-  two_first : (a c b d : ℕ) → Connected g a → Connected g c → IsSecondSide g ok a b → FirstOrder g ok a c → MayPrecede (pair_of a b) (pair_of c d)
+  two_first : (a c b d : ℕ) → Connected g a → Connected g c → IsSecondSide g ok a b → ByLeast g ok a c → MayPrecede (pair_of a b) (pair_of c d)
   two_first a c b d ca cc sb o = (
     λ e. o.0 (λ r h. subst (λ s. Has s r) (sym (ap (λ p. p.a) e)) h),
     λ builds. elim builds [
@@ -113,16 +110,16 @@ module _ (g : JoinGraph) (ok : IsGraph g) where
   pub ccp_order : AllPairs MayPrecede (seq_dpccp g)
   unfolding seq_dpccp
   ccp_order =
-      pairs_flat_map MayPrecede (FirstOrder g ok) (λ a. map (pair_of a) (second_sides g a)) (first_sides g) (first_order g ok)
+      pairs_flat_map MayPrecede (ByLeast g ok) (λ a. map (pair_of a) (second_sides g a)) (first_sides g) (sets_order g ok)
       (λ a m.
       pairs_map MayPrecede (λ b c. b ≢ c) (pair_of a) (second_sides g a) (second_once g ok a)
-      (λ b c mb mc ne. one_first a b c ((first_has g ok a).0 m) ((second_has g ok a b).0 mb) ((second_has g ok a c).0 mc) ne))
+      (λ b c mb mc ne. one_first a b c ((sets_has g ok a).0 m) ((second_has g ok a b).0 mb) ((second_has g ok a c).0 mc) ne))
       (λ a c p q ma mc o mp mq.
       let b : (b : ℕ) × Contains (second_sides g a) b × (pair_of a b ≡ p) = contains_from_map (pair_of a) (second_sides g a) p mp in
       let d : (d : ℕ) × Contains (second_sides g c) d × (pair_of c d ≡ q) = contains_from_map (pair_of c) (second_sides g c) q mq in
       subst (λ x. MayPrecede x q) b.2
       (subst (MayPrecede (pair_of a b.0)) d.2
-      (two_first a c b.0 d.0 ((first_has g ok a).0 ma) ((first_has g ok c).0 mc) ((second_has g ok a b.0).0 b.1) o)))
+      (two_first a c b.0 d.0 ((sets_has g ok a).0 ma) ((sets_has g ok c).0 mc) ((second_has g ok a b.0).0 b.1) o)))
 
   pub dpccp_complete : Complete g (seq_dpccp g)
   dpccp_complete = complete_from g (seq_dpccp g) ccp_sound ccp_complete ccp_order

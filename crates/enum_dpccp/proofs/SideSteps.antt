@@ -1,55 +1,21 @@
--- What one step takes from the first sides, and from the second sides of one.
-use Rattle.std.proofs.Common.{add-one, ◌≡◌, ◌≢◌, ℕ, zero, suc, ◌+◌, ◌-◌, ◌*◌, ◌/◌, ◌%◌, ◌^◌, ◌<◌, ◌≤◌, inl, inr, arith, refl, sym, ◌∙◌, ap, subst, Bool, cond, List, [], ◌∷◌, ◌++◌, nat_eq}
-use Rattle.std.proofs.Math.Nat.{mul-le-mul_right, pow-suc}
-use Rattle.std.specs.Int.{bit_at}
-use Rattle.std.specs.Int.Count.{count_leading_zeros}
+-- What one step takes from the second sides of a first side.
+use Rattle.std.proofs.Common.{◌≡◌, ◌≢◌, ℕ, zero, suc, ◌+◌, ◌<◌, ◌≤◌, inl, inr, arith, refl, sym, ◌∙◌, ap, subst, Bool, cond, List, [], ◌∷◌, ◌++◌, nat_eq}
 use Rattle.std.specs.List.{Contains, filter, flat_map}
-use Rattle.std.proofs.lemmas.Bool.{cases_eq, cases_lt, cond-true, cond-false, eqb-true, eq-eqb, ne_eqb}
-use Rattle.std.proofs.lemmas.Nat.{leading_top, div-add-mod'}
-use Rattle.std.proofs.lemmas.Nat.Bits.{bit_at_above}
+use Rattle.std.proofs.lemmas.Bool.{cases_eq, cond-true, cond-false, eqb-true, eq-eqb, ne_eqb}
 use Rattle.dpe_base.specs.declared.TheConstants.{N_MAX}
 use Rattle.dpe_base.specs.Sets.{Has, Within, IsLeast, member, union, inter, minus, single, full, least}
-use Rattle.dpe_base.proofs.SetLaws.{sets, same_set, empty_has, has_some, single_has, single_one, full_has, full_limit, union_right, minus_left, minus_right}
+use Rattle.dpe_base.proofs.SetLaws.{sets, same_set, empty_has, single_has, single_one, full_limit, union_right, minus_left, minus_right}
 use Rattle.join_graph.specs.Graphs.{JoinGraph, IsGraph, Connected}
 use Rattle.join_graph.proofs.GraphLaws.{known_relation}
 use Rattle.pair_stream.specs.Subsets.{descending}
-use Rattle.dpe_base.proofs.Members.{contains_head, contains_tail, contains_none}
+use Rattle.dpe_base.proofs.Members.{contains_head, contains_tail}
 use Rattle.pair_stream.proofs.Lists.{passes_from_filter}
 use Rattle.pair_stream.proofs.SubsetLaws.{descending_has}
 use Rattle.pair_stream.proofs.ConnectivityLaws.{connected_least}
-use Rattle.enum_dpccp.specs.Dpccp.{grown_from, all_extensions, neighbours_outside, excluded, first_sides_below, first_sides, second_sides_from, second_sides}
-use Rattle.enum_dpccp.specs.Sides.{IsGreatest}
-use Rattle.enum_dpccp.proofs.Depth.{flat_map_agree, outside_in_graph}
-use Rattle.enum_dpccp.proofs.SideLaws.{first_has}
-
--- ---- the greatest member
-
-quotient_one : (s p : ℕ) → p ≤ s → s < p + p → s / p ≡ 1
-quotient_one s p l m =
-    elim (cases_lt (s / p) 1) [
-      | inl z ↦ absurd (omega (arith, div-add-mod' s p, zero_times (s / p) p (omega arith)))
-      | inr g ↦ elim (cases_lt (s / p) 2) [
-        | inl k ↦ omega arith
-        | inr k ↦ absurd (omega (arith, div-add-mod' s p, mul-le-mul_right {m = 2} {n = s / p} p k, two_times p))
-      ]
-    ]
-  where
-    zero_times : (q p : ℕ) → q ≡ 0 → q * p ≡ 0
-    zero_times q p e = ap (λ (k : ℕ). k * p) e ∙ omega arith
-
-    two_times : (p : ℕ) → 2 * p ≡ p + p
-    two_times p = omega arith
-
-top_digit : (s j : ℕ) → 2 ^ j ≤ s → s < 2 ^ suc j → bit_at s j ≡ 1
-top_digit s j l m = ap (λ (k : ℕ). k % 2) (quotient_one s (2 ^ j) l (omega (arith, pow-suc 2 j)))
-
-pub greatest_by_zeros : (s : ℕ) → s < 2 ^ 32 → s ≢ 0 → IsGreatest s (31 - count_leading_zeros 32 s)
-unfolding member
-greatest_by_zeros s b ne =
-    let t : (j : ℕ) × (count_leading_zeros 32 s + suc j ≡ 32) × (2 ^ j ≤ s) × (s < 2 ^ suc j) = leading_top 32 s (omega arith) b in
-    let e : t.0 ≡ 31 - count_leading_zeros 32 s = omega (arith, t.1) in
-    subst (λ (j : ℕ). (bit_at s j ≡ 1) × ((k : ℕ) → bit_at s k ≡ 1 → k ≤ j)) e
-    (top_digit s t.0 t.2 t.3, λ k h. elim (cases_lt t.0 k) [ inl l ↦ absurd (omega (arith, bit_at_above s (suc t.0) k t.3 (omega (arith, l)), h)) | inr g ↦ g ])
+use Rattle.connected_sets.specs.Lists.{grown_from, all_extensions, neighbours_outside}
+use Rattle.enum_dpccp.specs.Dpccp.{excluded, second_sides_from, second_sides}
+use Rattle.connected_sets.specs.Greatest.{IsGreatest}
+use Rattle.connected_sets.proofs.Depth.{flat_map_agree, outside_in_graph}
 
 -- ---- what a first side excludes
 
@@ -61,55 +27,6 @@ excluded_by g a r f u ok c l ef eu = eu ∙ ap (λ (k : ℕ). union k a) (ef ∙
   where
     same : r + 1 ≡ suc (least a)
     same = omega (arith, l.1 (least a) (connected_least g a ok c).0, (connected_least g a ok c).1 r l.0)
-
--- ---- first sides
-
-pub first_start : (g : JoinGraph) (grown : List ℕ) (n : ℕ) → grown ≡ [] → n ≡ g.n → grown ++ first_sides_below g n ≡ first_sides g
-unfolding first_sides
-first_start g grown n e en = ap (λ xs. xs ++ first_sides_below g n) e ∙ ap (first_sides_below g) en
-
-pub first_start_connected : (g : JoinGraph) (left : List ℕ) → IsGraph g → left ≡ first_sides g → (a : ℕ) → Contains left a → Connected g a
-first_start_connected g left ok e a h = (first_has g ok a).0 (subst (λ xs. Contains xs a) e h)
-
-pub first_end : (g : JoinGraph) (grown : List ℕ) (n : ℕ) → grown ≡ [] → n ≡ 0 → grown ++ first_sides_below g n ≡ []
-unfolding first_sides_below descending
-first_end g grown n e en = ap (λ xs. xs ++ first_sides_below g n) e ∙ ap (first_sides_below g) en
-
-first_below : (g : JoinGraph) (i : ℕ) → first_sides_below g (suc i) ≡ single i ∷ (all_extensions g (single i) (full (suc i)) ++ first_sides_below g i)
-unfolding first_sides_below descending grown_from
-first_below g i = refl
-
-pub first_next : (g : JoinGraph) (old now : List ℕ) (n i s x : ℕ) → old ≡ [] → n ≢ 0 → i ≡ n - 1 → s ≡ single i → x ≡ full (i + 1) → now ≡ all_extensions g s x → old ++ first_sides_below g n ≡ s ∷ (now ++ first_sides_below g i)
-first_next g old now n i s x eo ne ei es ex en =
-    ap (λ xs. xs ++ first_sides_below g n) eo
-    ∙ ap (first_sides_below g) count
-    ∙ first_below g i
-    ∙ ap (λ (k : ℕ). k ∷ (all_extensions g k (full (suc i)) ++ first_sides_below g i)) (sym es)
-    ∙ ap (λ (k : ℕ). s ∷ (all_extensions g s k ++ first_sides_below g i)) (sym (ex ∙ ap full (add-one i)))
-    ∙ ap (λ xs. s ∷ (xs ++ first_sides_below g i)) (sym en)
-  where
-    count : n ≡ suc i
-    count = omega (arith, ne, ei)
-
-pub start_known : (g : JoinGraph) (i s : ℕ) → s ≡ single i → i < g.n → Within s (full g.n)
-start_known g i s e l r h = full_has g.n r (omega (arith, l, single_one i r (subst (λ (k : ℕ). Has k r) e h)))
-
-pub start_some : (i s : ℕ) → s ≡ single i → s ≢ 0
-start_some i s e z = has_some (single i) i (single_has i) (sym e ∙ z)
-
-pub start_below : (i s x : ℕ) → s ≡ single i → x ≡ full (i + 1) → Within s x
-start_below i s x e ex r h =
-    subst (λ (k : ℕ). Has k r) (sym ex) (full_has (i + 1) r (omega (arith, single_one i r (subst (λ (k : ℕ). Has k r) e h))))
-
--- the head of the list, and the rest, are connected where all of it is
-pub head_connected : (g : JoinGraph) (old now : List ℕ) (a : ℕ) → ((s : ℕ) → Contains old s → Connected g s) → old ≡ a ∷ now → Connected g a
-head_connected g old now a h e = h a (subst (λ xs. Contains xs a) (sym e) (contains_head a now))
-
-pub rest_connected : (g : JoinGraph) (old now : List ℕ) (a : ℕ) → ((s : ℕ) → Contains old s → Connected g s) → old ≡ a ∷ now → (s : ℕ) → Contains now s → Connected g s
-rest_connected g old now a h e s c = h s (subst (λ xs. Contains xs s) (sym e) (contains_tail a now s c))
-
-pub none_connected : (g : JoinGraph) (now : List ℕ) → now ≡ [] → (s : ℕ) → Contains now s → Connected g s
-none_connected g now e s c = absurd (contains_none s (subst (λ xs. Contains xs s) e c))
 
 -- ---- second sides
 

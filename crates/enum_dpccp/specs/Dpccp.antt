@@ -1,39 +1,15 @@
--- The list of DPccp: connected sets grown from one relation, and for each the connected sets beside it.
-use Rattle.std.specs.Prelude.{ℕ, zero, suc, ◌==◌, List, [], ◌∷◌, ◌++◌, map}
+-- The list of DPccp: the connected sets, and for each the connected sets beside it.
+use Rattle.std.specs.Prelude.{ℕ, suc, ◌==◌, List, map}
 use Rattle.std.specs.List.{filter, flat_map}
 use Rattle.dpe_base.specs.declared.pair.Pair.{Pair}
-use Rattle.dpe_base.specs.Sets.{member, union, inter, minus, single, full, least}
+use Rattle.dpe_base.specs.Sets.{member, union, inter, full, least}
 use Rattle.join_graph.specs.Graphs.{JoinGraph, pair_of}
-use Rattle.pair_stream.specs.Subsets.{subsets, descending}
-use Rattle.pair_stream.specs.Connectivity.{neighbours}
-
--- the neighbours of s that are not in x
-abbrev pub neighbours_outside : JoinGraph → ℕ → ℕ → ℕ
-neighbours_outside g s x = minus (neighbours g s) x
-
--- EnumerateCsgRec: the larger connected sets that contain s and have no member of x outside s, in at
--- most `depth` steps from s. Those that one step reaches come first, then from each the ones beyond it.
-unfoldable pub extensions : JoinGraph → ℕ → ℕ → ℕ → List ℕ
-extensions g zero s x = []
-extensions g (suc depth) s x =
-    map (union s) (subsets (neighbours_outside g s x))
-    ++ flat_map (λ t. extensions g depth (union s t) (union x (neighbours_outside g s x))) (subsets (neighbours_outside g s x))
-
--- with as many steps as there are relations
-abbrev pub all_extensions : JoinGraph → ℕ → ℕ → List ℕ
-all_extensions g s x = extensions g g.n s x
-
--- relation i alone, and its extensions without the members of x
-unfoldable pub grown_from : JoinGraph → ℕ → ℕ → List ℕ
-grown_from g x i = single i ∷ all_extensions g (single i) x
-
--- the first sides with a least relation below n
-unfoldable pub first_sides_below : JoinGraph → ℕ → List ℕ
-first_sides_below g n = flat_map (λ i. grown_from g (full (suc i)) i) (descending n)
+use Rattle.pair_stream.specs.Subsets.{descending}
+use Rattle.connected_sets.specs.Lists.{neighbours_outside, grown_from, sets_by_least}
 
 -- EnumerateCsg: every connected set
-unfoldable pub first_sides : JoinGraph → List ℕ
-first_sides g = first_sides_below g g.n
+abbrev pub first_sides : JoinGraph → List ℕ
+first_sides g = sets_by_least g
 
 -- what no second side of a has: the relations up to the least of a, and a
 abbrev pub excluded : ℕ → ℕ

@@ -1,24 +1,10 @@
--- What the first sides, and the second sides of one, have still to give.
-use Rattle.std.specs.Prelude.{ℕ, ◌≤◌, List, ◌++◌, Contains}
-use Rattle.dpe_base.specs.Sets.{Has, Within, full}
-use Rattle.join_graph.specs.Graphs.{JoinGraph, Connected}
-use Rattle.enum_dpccp.specs.declared.sides.FirstSides.{FirstSides}
+-- What the second sides of a first side have still to give.
+use Rattle.std.specs.Prelude.{ℕ, List, ◌++◌}
+use Rattle.dpe_base.specs.Sets.{Within, full}
+use Rattle.join_graph.specs.Graphs.{JoinGraph}
 use Rattle.enum_dpccp.specs.declared.sides.SecondSides.{SecondSides}
-use Rattle.enum_dpccp.specs.Dpccp.{first_sides_below, second_sides_from}
-use Rattle.enum_dpccp.specs.Growth.{growth_left, GrowthFits}
-
--- r is the greatest member of s
-abbrev pub IsGreatest : ℕ → ℕ → Type 0
-IsGreatest s r = Has s r × ((k : ℕ) → Has s k → k ≤ r)
-
--- those of the growth come first
-abbrev pub first_left : JoinGraph → FirstSides → List ℕ
-first_left g f = growth_left g f.growth ++ first_sides_below g f.relations
-
-pub record FirstFits (g : JoinGraph) (f : FirstSides) : Type 0 where
-  pub growth : GrowthFits g f.growth
-  pub relations : f.relations ≤ g.n
-  pub connected : (a : ℕ) → Contains (first_left g f) a → Connected g a
+use Rattle.enum_dpccp.specs.Dpccp.{second_sides_from}
+use Rattle.connected_sets.specs.Growth.{growth_left, GrowthFits}
 
 -- those of the growth come first
 abbrev pub second_left : JoinGraph → SecondSides → List ℕ

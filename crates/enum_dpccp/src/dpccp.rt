@@ -3,7 +3,8 @@ ghost use Rattle.dpe_base.specs.declared.pair.Pair.{Pair};
 ghost use Rattle.pair_stream.specs.Orders.{Ordered, Complete};
 ghost use Rattle.enum_dpccp.specs.Dpccp.{seq_dpccp};
 
-use crate::sides::{FirstSides, SecondSides};
+use crate::sides::SecondSides;
+use connected_sets::ConnectedSets;
 use dpe_base::{Pair, RelSet, Steps};
 use join_graph::Graph;
 use pair_stream::PairStream;
@@ -21,7 +22,7 @@ use std::sync::ledger::Ledger;
 #[derive(Drop)]
 pub struct DpCcp {
     graph: Graph,
-    firsts: FirstSides,
+    firsts: ConnectedSets,
     first: RelSet,
     seconds: SecondSides,
 }
@@ -52,7 +53,7 @@ impl DpCcp {
         graph.recall();
         DpCcp {
             graph: *graph,
-            firsts: FirstSides::over(graph),
+            firsts: ConnectedSets::over(graph),
             first: RelSet::empty(),
             seconds: SecondSides::none(graph),
         }

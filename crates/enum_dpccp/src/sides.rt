@@ -1,23 +1,14 @@
-ghost use Rattle.std.specs.Prelude.{◌≡◌, [], IfSome, MatchOption};
+ghost use Rattle.std.specs.Prelude.{◌≡◌, []};
 ghost use Rattle.std.specs.Option.{IfNone};
 ghost use Rattle.join_graph.specs.Graphs.{Connected};
 ghost use Rattle.pair_stream.specs.Streams.{Takes};
-ghost use Rattle.enum_dpccp.specs.Dpccp.{excluded, first_sides, second_sides};
-ghost use Rattle.enum_dpccp.specs.Growth.{growth_left};
-ghost use Rattle.enum_dpccp.specs.Sides.{IsGreatest, first_left, FirstFits, second_left, SecondFits};
+ghost use Rattle.enum_dpccp.specs.Dpccp.{excluded, second_sides};
+ghost use Rattle.connected_sets.specs.Growth.{growth_left};
+ghost use Rattle.enum_dpccp.specs.Sides.{second_left, SecondFits};
 
-use crate::growth::{Growth, neighbours_outside};
+use connected_sets::{Growth, greatest, neighbours_outside};
 use dpe_base::RelSet;
 use join_graph::Graph;
-
-/// The connected sets as first sides: from each relation, the greatest first, those without a smaller one.
-#[derive(Drop)]
-pub struct FirstSides {
-    /// Those from the relation at hand.
-    pub growth: Growth,
-    /// The relations below it are still to come.
-    pub relations: u8,
-}
 
 /// The second sides of one first side: from each start, the greatest first, those without a smaller one.
 #[derive(Drop)]
@@ -30,17 +21,6 @@ pub struct SecondSides {
     pub starts: RelSet,
 }
 
-// The greatest member.
-fn greatest(s: RelSet) -> Option<u8>
-    ensures { MatchOption result (s ≡ 0) (λ r. IsGreatest s r) }
-{
-    if s.bits() == 0 {
-        None
-    } else {
-        Some((31 - s.bits().leading_zeros()) as u8)
-    }
-}
-
 // What no second side of `a` has: the relations up to the least of `a`, and `a`.
 fn excluded(graph: &Graph, a: RelSet) -> RelSet
     requires { Connected graph.now a }
@@ -50,40 +30,6 @@ fn excluded(graph: &Graph, a: RelSet) -> RelSet
     match a.least() {
         None => a,
         Some(r) => RelSet::full(r + 1).union(a),
-    }
-}
-
-impl FirstSides {
-    /// All first sides of the graph are left.
-    pub fn over(graph: &Graph) -> FirstSides
-        ensures left { first_left graph.now result ≡ first_sides graph.now }
-        ensures fits { FirstFits graph.now result }
-    {
-        FirstSides {
-            growth: Growth::spent(graph),
-            relations: graph.n(),
-        }
-    }
-
-    /// The next first side.
-    pub fn next(&mut self, graph: &Graph) -> Option<RelSet>
-        requires { FirstFits graph.now self.old }
-        ensures set { Takes (first_left graph.now self.old) (first_left graph.now self.new) result }
-        ensures fits { FirstFits graph.now self.new }
-        ensures connected { IfSome result (λ a. Connected graph.now a) }
-    {
-        graph.recall();
-        if let Some(s) = self.growth.next(graph) {
-            return Some(s);
-        }
-        if self.relations == 0 {
-            return None;
-        }
-        self.relations -= 1;
-        let first = RelSet::single(self.relations);
-        self.growth
-            .begin(graph, first, RelSet::full(self.relations + 1));
-        Some(first)
     }
 }
 

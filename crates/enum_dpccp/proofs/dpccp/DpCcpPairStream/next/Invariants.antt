@@ -1,5 +1,5 @@
 use Rattle.std.proofs.Common.{◌≡◌, length}
-use Rattle.enum_dpccp.specs.Sides.{first_left}
+use Rattle.connected_sets.specs.Left.{sets_left}
 use Rattle.enum_dpccp.specs.Left.{dpccp_left, DpccpFits}
 use Rattle.enum_dpccp.proofs.dpccp.DpCcpPairStream.next.Given as goal
 
@@ -11,4 +11,4 @@ invariant-firsts g l =
     }
 
 abbrev pub decreases-firsts : goal.decreases-firsts
-decreases-firsts g l = length (first_left l.self-inside.graph l.self-inside.firsts)
+decreases-firsts g l = length (sets_left l.self-inside.graph l.self-inside.firsts)

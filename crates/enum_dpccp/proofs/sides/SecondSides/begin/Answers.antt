@@ -1,4 +1,4 @@
-use Rattle.enum_dpccp.specs.Growth.{growth_left}
+use Rattle.connected_sets.specs.Growth.{growth_left}
 use Rattle.enum_dpccp.proofs.SideSteps.{second_start, starts_known}
 use Rattle.enum_dpccp.proofs.sides.SecondSides.begin.Goals as goal
 

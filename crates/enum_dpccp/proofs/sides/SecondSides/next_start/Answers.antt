@@ -1,7 +1,8 @@
 use Rattle.std.proofs.Common.{◌<◌, arith}
 use Rattle.dpe_base.specs.declared.TheConstants.{N_MAX}
-use Rattle.enum_dpccp.specs.Growth.{growth_left}
-use Rattle.enum_dpccp.proofs.SideSteps.{second_end, second_next, start_known, start_some, start_excluded, greatest_room, rest_known}
+use Rattle.connected_sets.specs.Growth.{growth_left}
+use Rattle.connected_sets.proofs.SetSteps.{start_known, start_some}
+use Rattle.enum_dpccp.proofs.SideSteps.{second_end, second_next, start_excluded, greatest_room, rest_known}
 use Rattle.enum_dpccp.proofs.sides.SecondSides.next_start.Goals as goal
 
 pub returns-in_default-clause-set : goal.returns-in_default-clause-set

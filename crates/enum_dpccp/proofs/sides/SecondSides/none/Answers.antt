@@ -1,7 +1,7 @@
 use Rattle.std.proofs.Common.{subst, sym, ℕ}
 use Rattle.dpe_base.specs.Sets.{Within, full}
-use Rattle.enum_dpccp.specs.Growth.{growth_left}
-use Rattle.enum_dpccp.proofs.GrowthLaws.{within_empty}
+use Rattle.connected_sets.specs.Growth.{growth_left}
+use Rattle.connected_sets.proofs.GrowthLaws.{within_empty}
 use Rattle.enum_dpccp.proofs.SideSteps.{second_end}
 use Rattle.enum_dpccp.proofs.sides.SecondSides.none.Goals as goal
 
