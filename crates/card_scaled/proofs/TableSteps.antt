@@ -18,7 +18,7 @@ use Rattle.card_scaled.proofs.CardLaws.{card_more, relation_same}
 use Rattle.card_scaled.specs.Scaled.{ScaledNumber, IsNear, mul, one, rounded}
 use Rattle.card_scaled.specs.Cards.{RowTable, times_base, times_pred, with_relation, card, rows, IsCardTable}
 
-empty_card : (q : JoinQuery) → card q 0 ≡ one
+pub empty_card : (q : JoinQuery) → card q 0 ≡ one
 unfolding card members_below alone member
 empty_card q = refl
 

@@ -11,7 +11,7 @@ use std::marker::Model;
 
 // The relation's rows, at least 1, times its filter's fraction.
 #[tactic(auto, unfolding(crate::specs::Cards::base_of))]
-fn base_of(rel: &Rel) -> Scaled
+pub fn base_of(rel: &Rel) -> Scaled
     requires some { 1 ≤ rel.now.num }
     requires proper { rel.now.num ≤ rel.now.den }
     requires small { rel.now.den ≤ INPUT_CAP }
@@ -68,14 +68,14 @@ pub fn rows_once(query: &Query, s: RelSet) -> u64
     product.rows()
 }
 
-/// The number of rows of each set of a query's relations.
+/// The number of rows of every set, at the place of its bits.
 #[derive(Drop)]
-pub struct CardTable {
+pub struct AllRows {
     n: u8,
     rows: Vec<u64>,
 }
 
-impl Model for CardTable {
+impl Model for AllRows {
     ghost use Rattle.std.specs.Prelude.{◌≡◌, ◌≤◌, ◌^◌, length};
     ghost use Rattle.dpe_base.specs.declared.TheConstants.{N_MAX};
     ghost use Rattle.card_scaled.specs.Cards.{RowTable};
@@ -178,16 +178,14 @@ fn round_all(alloc: Global, cards: &[Scaled]) -> Result<Vec<u64>, AllocError>
     Ok(rows)
 }
 
-impl CardTable {
+impl AllRows {
     /// The rows of all sets of the query's relations, each from the set without its greatest relation.
-    ///
-    /// Fails where there is no memory.
-    pub fn make(alloc: Global, query: &Query) -> Result<CardTable, AllocError>
+    pub fn make(alloc: Global, query: &Query) -> Result<AllRows, AllocError>
         ensures { IfOk result (λ t. IsCardTable query.now t) }
     {
         let cards = all_cards(alloc, query)?;
         let rows = round_all(alloc, &cards)?;
-        Ok(CardTable { n: query.n(), rows })
+        Ok(AllRows { n: query.n(), rows })
     }
 
     /// The number of rows of the set, the same as by [`rows_once`].

@@ -5,15 +5,20 @@
 //! the tree that makes it. [`Scaled`] is the number in which it is computed: a mantissa of 32 binary digits and a scale, which no
 //! product of a query takes out of range. Rows are rounded up, and are at least 1 and at most `ROW_CAP`.
 //!
-//! Begin with `rows_once` in `cards.rt`, for one set; [`CardTable`] has the same number for every set, each computed from the
-//! set without its greatest relation.
+//! Begin with `rows_once` in `cards.rt`, for one set. [`CardTable`] has the same number for every set, each computed from the
+//! set without its greatest relation. A query with few connected sets pays for these alone (`sparse.rt`).
 #![tactic(auto)]
 
 mod cards;
+mod factors;
 pub mod laws;
+mod places;
 mod scaled;
+mod sparse;
+mod table;
 #[cfg(test)]
 mod tests;
 
-pub use cards::{CardTable, rows_once};
+pub use cards::rows_once;
 pub use scaled::Scaled;
+pub use table::CardTable;

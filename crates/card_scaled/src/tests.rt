@@ -52,6 +52,39 @@ fn no_cap_inside_the_fold(rt: HostRuntime) -> Result<(), Fail> {
     Ok(())
 }
 
+// Twelve relations of 2 ^ 10 rows in a chain whose predicates keep the fraction 2 ^ -10.
+fn chain(alloc: Global) -> Result<Query, Fail> {
+    let rels = vec![in alloc; rel(1 << 10); 12]?;
+    let mut preds = Vec::new(alloc);
+    for low in 0..11u8 {
+        preds.push(Pred {
+            low,
+            high: low + 1,
+            num: 1,
+            den: 1 << 10,
+        })?;
+    }
+    Ok(Query::new(rels, preds)?)
+}
+
+// A relation, connected sets with and without the least relation, two sets that are not connected, and all relations.
+#[test]
+fn few_connected_sets(rt: HostRuntime) -> Result<(), Fail> {
+    let query = chain(rt.alloc())?;
+    let table = CardTable::make(rt.alloc(), &query)?;
+    for (s, rows) in [
+        (1, 1 << 10),
+        (3, 1 << 10),
+        (0b111_1100, 1 << 10),
+        (5, 1 << 20),
+        (0b1_0101, 1 << 30),
+        (0xFFF, 1 << 10),
+    ] {
+        assert_eq!(rt; by_both(&query, &table, s), Some((rows, rows)), "at {s}");
+    }
+    Ok(())
+}
+
 // The mantissa and the scale.
 fn digits(number: Scaled) -> (u32, i32) {
     (number.mantissa, number.scale)

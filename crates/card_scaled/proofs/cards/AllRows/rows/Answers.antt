@@ -1,7 +1,7 @@
 use Rattle.std.proofs.Common.{◌<◌, arith, ap, sym, subst, length}
 use Rattle.dpe_base.specs.Sets.{Within, full}
 use Rattle.card_scaled.proofs.TableSteps.{table_place, table_entry, table_rows}
-use Rattle.card_scaled.proofs.cards.CardTable.rows.Goals as goal
+use Rattle.card_scaled.proofs.cards.AllRows.rows.Goals as goal
 
 pub index-requires : goal.index-requires
 index-requires c =
