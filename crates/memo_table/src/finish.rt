@@ -1,14 +1,20 @@
 //! The words at the end.
-ghost use Rattle.std.specs.Prelude.{◌≡◌, ℕ, ◌^◌, ◌<◌, length, slice_index_or};
+ghost use Rattle.std.specs.Prelude.{◌≡◌, ℕ, ◌+◌, ◌^◌, ◌<◌, length, slice_index_or};
+ghost use Rattle.std.specs.Mem.Slots.{IsFull, slots_items, slots_len};
 ghost use Rattle.dpe_base.specs.Queries.{relations};
-ghost use Rattle.memo_table.specs.Finishing.{IsLeastBound};
+ghost use Rattle.join_graph.specs.Graphs.{Connected};
+ghost use Rattle.memo_table.specs.Finishing.{IsLeastBound, AreCopied, AreCopiedBut};
 ghost use Rattle.memo_table.specs.Seats.{IsSeatOf, BoundsAreMade};
 ghost use Rattle.memo_table.specs.Views.{EachOnceBelow};
 
-use crate::memo::Memo;
+use crate::memo::{Memo, place_of};
 use crate::seat::MemoSeat;
+use atomic_table::Closed;
+use connected_sets::{ConnectedSets, count_up_to};
 use cost_model::CostModel;
 use dpe_base::WEIGHT;
+use join_graph::Graph;
+use std::alloc::Global;
 use std::marker::Model;
 
 /// The word of each set when the memo was finished, and how many numbers were drawn. No step changes them any more.
@@ -42,6 +48,52 @@ impl Words {
     }
 }
 
+// Each word of the row becomes that of the table.
+fn copy_all(closed: &Closed<(), Global>, row: &mut [u64])
+    requires full { IsFull closed.now.words }
+    requires sized { slots_len closed.now.words ≡ length row.old + 1 }
+    ensures size { length row.new ≡ length row.old }
+    ensures copied { AreCopied (slots_items closed.now.words) row.new }
+{
+    'words: for k in 0..row.len() {
+        let word = closed.word(k + 1);
+        row[k] = word;
+    }
+}
+
+// The same, where the words of sets that are not connected are there already.
+fn copy_connected(closed: &Closed<(), Global>, row: &mut [u64], graph: &Graph)
+    requires full { IsFull closed.now.words }
+    requires sized { slots_len closed.now.words ≡ length row.old + 1 }
+    requires graph { length row.old ≡ 2 ^ graph.now.n }
+    requires others { AreCopiedBut (Connected graph.now) (slots_items closed.now.words) row.old }
+    ensures size { length row.new ≡ length row.old }
+    ensures copied { AreCopied (slots_items closed.now.words) row.new }
+{
+    graph.recall();
+    let mut sets = ConnectedSets::over(graph);
+    'sets: while let Some(s) = sets.next(graph) {
+        let word = closed.word(place_of(s));
+        row[s.bits() as usize] = word;
+    }
+}
+
+// The same, by what there is less of: where at most one set in 32 is connected, these alone are copied.
+fn copy_words(closed: &Closed<(), Global>, row: &mut [u64], graph: &Graph)
+    requires full { IsFull closed.now.words }
+    requires sized { slots_len closed.now.words ≡ length row.old + 1 }
+    requires graph { length row.old ≡ 2 ^ graph.now.n }
+    requires others { AreCopiedBut (Connected graph.now) (slots_items closed.now.words) row.old }
+    ensures size { length row.new ≡ length row.old }
+    ensures copied { AreCopied (slots_items closed.now.words) row.new }
+{
+    if count_up_to(graph, row.len() / 32).is_some() {
+        copy_connected(closed, row, graph);
+    } else {
+        copy_all(closed, row);
+    }
+}
+
 impl<M: CostModel> Memo<M> {
     /// With the whole weight, each word is the least bound of its set that the seat has. It takes no memory.
     pub fn finish(self, seat: MemoSeat<M>) -> Words
@@ -52,14 +104,15 @@ impl<M: CostModel> Memo<M> {
         ensures drawn { EachOnceBelow result.drawn seat.view.tickets }
         ensures made { BoundsAreMade M.KIND seat.view }
     {
-        let Memo { table, mut row } = self;
+        let Memo {
+            table,
+            mut row,
+            graph,
+        } = self;
         let MemoSeat { seat, model: _ } = seat;
-        let words = table.word_count();
         let closed = table.close_with(seat);
         let drawn = closed.word(0);
-        for place in 1..words {
-            row.push_reserved(closed.word(place));
-        }
+        copy_words(&closed, &mut row, &graph);
         closed.free();
         Words { row, drawn }
     }

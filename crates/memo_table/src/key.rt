@@ -44,8 +44,8 @@ impl<N: Named> Play<(), TreeSpace> for Names<N> {
     ghost then = { names N.named };
 }
 
-// The key that names the query and the list of pairs that the stream has left. The list exists in proofs alone, so a
-// seat that a step has told of it stands for it. Its table is let go at once.
+// The key that names the query and the list of pairs that the stream has left. The list exists in proofs alone, so the key
+// is a seat whose view names it, at a table of its own that is dropped at once.
 pub(crate) fn key_of<P: PairStream>(
     alloc: Global,
     query: &Query,

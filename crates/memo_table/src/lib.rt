@@ -1,16 +1,13 @@
-//! The memo that workers share without locks: a counter, and for each set of relations the word of the best tree
-//! that any of them has found.
+//! The memo that workers share without locks: a counter, and for each set of relations the word of the best tree that any of
+//! them has found.
 //!
-//! Between any two atomic steps, in whatever order the threads take them:
-//! - The word of a set is `EMPTY`, or the word of a tree over the set that pairs of the memo's list make. It only falls.
-//! - What a seat knows stays true: each of its bounds is the word of such a tree, and the word of that set is at most
-//!   the bound; the counter has reached its floor.
-//! - Each word that is not `EMPTY` is a bound of some seat.
-//! - The tickets of all seats are the numbers below the counter, each once.
-//! - The seats' weights sum to `WEIGHT`, and the counter and the seats' allowances to `DRAWS`.
+//! A worker steps with a seat, and each step is one atomic load, minimum or sum. Between any two steps, in whatever order threads
+//! take them, a word is `EMPTY` or that of a tree over its set, and only falls; what a seat knows stays true; and the tickets of all
+//! seats are the numbers below the counter, each once. The seats' weights sum to `WEIGHT`: who holds all of it knows all tickets,
+//! and its least bound of a set is the set's word. No call waits for another. Nothing is said of progress, fairness or time.
 //!
-//! So who holds the whole weight knows all tickets, and the least of its bounds of a set is the set's word.
-//! No call waits for another. Nothing is said of progress, fairness or time, nor that a thread ever runs.
+//! Begin with [`Memo`]: `make`; `load`, `offer` and `draw`; `split` and `join`, for other threads; and `finish`, which gives the
+//! [`Words`]. What holds between any two steps is `specs/Rule.antt`, and `rule.rt` gives it to the table of words.
 #![tactic(auto)]
 
 mod finish;

@@ -1,5 +1,5 @@
 //! Making a memo.
-ghost use Rattle.std.specs.Prelude.{◌≡◌, ℕ, ◌<◌, ◌≤◌, [], IfOk, Contains};
+ghost use Rattle.std.specs.Prelude.{◌≡◌, ℕ, ◌+◌, ◌<◌, ◌≤◌, [], IfOk, Contains, length, slice_index_or};
 ghost use Rattle.dpe_base.specs.Queries.{relations};
 ghost use Rattle.dpe_base.specs.Sets.{single};
 ghost use Rattle.dpe_base.specs.declared.pair.Pair.{Pair};
@@ -17,6 +17,7 @@ use crate::seat::MemoSeat;
 use atomic_table::Table;
 use cost_model::{CostModel, LEAF};
 use dpe_base::{DRAWS, EMPTY, N_MAX, Query, RelSet, SPAN, WEIGHT};
+use join_graph::Graph;
 use pair_stream::PairStream;
 use std::alloc::{AllocError, Global};
 use std::marker::PhantomData;
@@ -40,20 +41,34 @@ fn opening_words(alloc: Global, n: u8) -> Result<Vec<u64>, AllocError>
     Ok(words)
 }
 
+// What is left without the counter is an empty word for each set.
+fn without_counter(words: &mut Vec<u64>)
+    requires some { 2 ≤ length words.old.items }
+    requires empty { (k : ℕ) → 1 ≤ k → k < length words.old.items → slice_index_or words.old.items k EMPTY ≡ EMPTY }
+    ensures size { length words.new.items + 1 ≡ length words.old.items }
+    ensures empty { (k : ℕ) → k < length words.new.items → slice_index_or words.new.items k EMPTY ≡ EMPTY }
+{
+    words[0] = EMPTY;
+    let _last = words.pop();
+}
+
 impl<M: CostModel> Memo<M> {
     // A memo in which every word is empty, and the seat of the whole weight.
-    fn opened(alloc: Global, n: u8, key: &Key) -> Result<(Memo<M>, MemoSeat<M>), AllocError>
-        requires n { n ≡ relations key.now.me.0.query }
+    fn opened(alloc: Global, graph: &Graph, key: &Key) -> Result<(Memo<M>, MemoSeat<M>), AllocError>
+        requires graph { graph.now ≡ graph_of key.now.me.0.query }
         requires space { IsTreeSpace key.now.me.0 }
         ensures named { IfOk result (λ r. (r.0.query ≡ key.now.me.0.query) × (r.0.pairs ≡ key.now.me.0.pairs)) }
         ensures seat { IfOk result (λ r. IsSeatOf r.0 r.1) }
         ensures view { IfOk result (λ r. r.1.view ≡ opening_view key.now.me.0) }
     {
-        // what the words stood in has room for those at the end
-        let mut row = opening_words(alloc, n)?;
+        let mut row = opening_words(alloc, graph.n())?;
         let (table, seat) = Table::of_words(alloc, row.as_slice(), key)?;
-        row.clear();
-        let memo = Memo { table, row };
+        without_counter(&mut row);
+        let memo = Memo {
+            table,
+            row,
+            graph: *graph,
+        };
         let seat = MemoSeat {
             seat,
             model: PhantomData,
@@ -89,8 +104,10 @@ impl<M: CostModel> Memo<M> {
         ensures bounds { IfOk result (λ r. HasLeaves (relations query.now) r.1.view) }
         ensures leaves { IfOk result (λ m. (r : ℕ) → r < relations query.now → Settled M.KIND m.1.view (single r)) }
     {
+        query.recall();
+        let graph = Graph::of(query);
         let key = key_of(alloc, query, stream)?;
-        let (memo, mut seat) = Self::opened(alloc, query.n(), &key)?;
+        let (memo, mut seat) = Self::opened(alloc, &graph, &key)?;
         memo.offer_leaves(&mut seat, query.n());
         Ok((memo, seat))
     }

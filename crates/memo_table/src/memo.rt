@@ -13,6 +13,7 @@ use crate::view::View;
 use atomic_table::Table;
 use cost_model::CostModel;
 use dpe_base::{EMPTY, RelSet, WEIGHT};
+use join_graph::Graph;
 use std::alloc::Global;
 use std::marker::Model;
 
@@ -23,24 +24,27 @@ use std::marker::Model;
 #[derive(Drop)]
 pub struct Memo<M: CostModel> {
     pub(crate) table: Table<(), View, Key, MemoRule<M>, Global>,
-    // Room for the words at the end.
+    // An empty word for each set, where the words at the end come to stand.
     pub(crate) row: Vec<u64>,
+    pub(crate) graph: Graph,
 }
 
 impl<M: CostModel> Model for Memo<M> {
-    ghost use Rattle.std.specs.Prelude.{◌≡◌, ◌+◌, ◌≤◌, ◌^◌, [], vec_capacity};
+    ghost use Rattle.std.specs.Prelude.{◌≡◌, ◌+◌, ◌^◌};
     ghost use Rattle.dpe_base.specs.Queries.{relations};
+    ghost use Rattle.join_graph.specs.Graphs.{graph_of};
+    ghost use Rattle.memo_table.specs.Finishing.{AreEmpty};
     ghost use Rattle.memo_table.specs.Seats.{MemoTable};
 
     ghost Value = { MemoTable };
 
     ghost view = { λ m. record { table = m.table.shared.table_id; query = m.table.shared.key.me.0.query; pairs = m.table.shared.key.me.0.pairs } };
 
-    ghost invariant = { λ m. (m.table.shared.table_id.words ≡ 2 ^ relations m.table.shared.key.me.0.query + 1) × (m.table.shared.table_id.slots ≡ 0) × (m.row.items ≡ []) × (2 ^ relations m.table.shared.key.me.0.query ≤ vec_capacity m.row) };
+    ghost invariant = { λ m. (m.table.shared.table_id.words ≡ 2 ^ relations m.table.shared.key.me.0.query + 1) × (m.table.shared.table_id.slots ≡ 0) × AreEmpty (relations m.table.shared.key.me.0.query) m.row.items × (m.graph ≡ graph_of m.table.shared.key.me.0.query) };
 }
 
 // Where the word of the set stands. The counter stands before all of them.
-fn place_of(s: RelSet) -> usize
+pub(crate) fn place_of(s: RelSet) -> usize
     ensures { result ≡ s + 1 }
 {
     s.bits() as usize + 1
