@@ -8,12 +8,13 @@ use Rattle.join_graph.specs.Graphs.{Connected, Crossed, pair_of, graph_of}
 use Rattle.join_graph.proofs.GraphLaws.{crossed_back, connected_single, pair_either}
 use Rattle.cost_model.specs.Words.{word_cost}
 use Rattle.join_tree.specs.Laws.{IsNoWorse}
-use Rattle.join_tree.specs.Trees.{JoinTree, leaf, join, Legal, Plan, EverySubtree, set_of, cost}
+use Rattle.join_tree.specs.Trees.{JoinTree, leaf, join, Legal, Best, Plan, set_of, cost}
 use Rattle.join_tree.proofs.BestLaws.{HasBest, best_cost, word_reads}
 use Rattle.join_tree.proofs.LeastPlan.{plans_are_least}
+use Rattle.join_tree.proofs.PlanLaws.{every_root}
 use Rattle.join_tree.proofs.TreeLaws.{legal_connected}
 use Rattle.cert_check.specs.Certificates.{IsCertificate, JoinBounded, bound_of}
-use Rattle.cert_check.specs.Laws.{AreLeastCosts, CertificatesConvince, BoundsAreLowerBounds, PlansAreCertified, BestWordsHaveLeastCosts}
+use Rattle.cert_check.specs.Laws.{IsLowerBound, IsLeastCost, AreLeastCosts}
 
 -- no tree undercuts the bound of its set
 bound_below : (model : ℕ) (q : JoinQuery) (t : JoinTree) (bounds : List ℕ) → IsQuery q → IsCertificate model q t bounds → (u : JoinTree) → Legal model (graph_of q) u → bound_of bounds (set_of u) ≤ cost model q u
@@ -28,11 +29,11 @@ bound_below model q t bounds ok cert (join op a b) m =
       | inr p ↦ omega (arith, left, right, (cert.bounded (pair_of (set_of b) (set_of a)) p).1 op m.0)
     ]
 
-pub bounds_are_lower_bounds : BoundsAreLowerBounds
+pub bounds_are_lower_bounds : (model : ℕ) (q : JoinQuery) (t : JoinTree) (bounds : List ℕ) → IsQuery q → IsCertificate model q t bounds → (s : ℕ) → IsLowerBound model q s (bound_of bounds s)
 bounds_are_lower_bounds model q t bounds ok cert s u l over =
     subst (λ x. bound_of bounds x ≤ cost model q u) over (bound_below model q t bounds ok cert u l)
 
-pub certificates_convince : CertificatesConvince
+pub certificates_convince : (model : ℕ) (q : JoinQuery) (t : JoinTree) (bounds : List ℕ) → IsQuery q → IsCertificate model q t bounds → IsLowerBound model q (full (relations q)) (cost model q t)
 certificates_convince model q t bounds ok cert u l over =
     omega (arith, cert.least, bounds_are_lower_bounds model q t bounds ok cert (full (relations q)) u l over)
 
@@ -57,10 +58,6 @@ sets_bounded model q bounds a b least ca cb = at_trees (least.1 a ca).some (leas
         (subst (λ s. Disjoint (set_of x.0) s → Crossed (graph_of q) (set_of x.0) s → JoinBounded model q bounds (set_of x.0) s) y.2
         (trees_bounded model q bounds x.0 y.0 least x.1 y.1 (rw x.2 x.3) (rw y.2 y.3)))
 
-every_root : (P : JoinTree → Type 0) (t : JoinTree) → EverySubtree P t → P t
-every_root P (leaf r) h = h
-every_root P (join op a b) h = h.0
-
 no_worse_cost : (model : ℕ) (q : JoinQuery) (t u : JoinTree) → IsNoWorse model q t u → cost model q t ≤ cost model q u
 no_worse_cost model q t u h = omega (arith, h)
 
@@ -68,7 +65,7 @@ plan_least : (model : ℕ) (q : JoinQuery) (s : ℕ) (t u : JoinTree) → IsQuer
 plan_least model q s t u ok p l over =
     no_worse_cost model q t u (every_root (λ v. (w : JoinTree) → Legal model (graph_of q) w → set_of w ≡ set_of v → IsNoWorse model q v w) t (plans_are_least model q s t ok p) u l (rw (over, p.over) refl))
 
-pub plans_are_certified : PlansAreCertified
+pub plans_are_certified : (model : ℕ) (q : JoinQuery) (t : JoinTree) (bounds : List ℕ) → IsQuery q → AreLeastCosts model q bounds → Plan model q (full (relations q)) t → IsCertificate model q t bounds
 plans_are_certified model q t bounds ok least p =
     let all : ℕ = full (relations q) in
     let whole : Connected (graph_of q) all = subst (Connected (graph_of q)) p.over (legal_connected model (graph_of q) t p.legal) in
@@ -93,7 +90,7 @@ best_least model q t u ok l best below m over =
       | inr c ↦ omega (arith, c, below)
     ]
 
-pub best_words_have_least_costs : BestWordsHaveLeastCosts
+pub best_words_have_least_costs : (model : ℕ) (q : JoinQuery) (s w : ℕ) → IsQuery q → Best model q s w → IsLeastCost model q s (word_cost w)
 best_words_have_least_costs model q s w ok best =
     let t : JoinTree = best.some.0 in
     let over : set_of t ≡ s = best.some.2 in

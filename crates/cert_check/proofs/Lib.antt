@@ -1,4 +1,4 @@
 mod CertificateParts
 mod KnownSides
-mod CertificateLaws
+pub mod CertificateLaws
 mod Splits

@@ -3,7 +3,7 @@ ghost use Rattle.dpe_base.specs.Sets.{Within, full};
 use crate::check_cert;
 use card_scaled::rows_once;
 use cost_model::{Cout, HASH, JOIN, LOOP, MERGE, Ops};
-use dpe_base::{Pred, Query, Rel, RelSet};
+use dpe_base::{INPUT_CAP, Pred, Query, ROW_CAP, Rel, RelSet};
 use join_graph::Graph;
 use join_tree::Tree;
 use std::alloc::{AllocError, Global};
@@ -246,11 +246,21 @@ fn agrees(query: &Query, tree: &Tree, bounds: &[u64]) -> bool {
     check_cert(query, &Ops, tree, bounds) == by_definition(query, tree, bounds)
 }
 
-// Whether the checker answers as the definition does with each bound in turn set to this one, one more, and one less.
+// Whether the checker answers as the definition does with each bound in turn one up, one down, and at numbers that no cost reaches.
 fn agrees_when_damaged(query: &Query, tree: &Tree, bounds: &mut [u64]) -> bool {
     for k in 0..bounds.len() {
         let kept = bounds[k];
-        for damaged in [kept.wrapping_add(1), kept.wrapping_sub(1), u64::MAX, 0] {
+        let (up, down) = (kept.wrapping_add(1), kept.wrapping_sub(1));
+        for damaged in [
+            up,
+            down,
+            0,
+            1 << 46,
+            (1 << 46) + 1,
+            1 << 63,
+            u64::MAX - 1,
+            u64::MAX,
+        ] {
             bounds[k] = damaged;
             if !agrees(query, tree, bounds) {
                 return false;
@@ -296,6 +306,22 @@ fn damaged_bounds_of_a_cycle(rt: HostRuntime) -> Result<(), Fail> {
     assert!(rt; check_cert(&query, &Ops, &plan, &bounds));
     assert!(rt; agrees(&query, &plan, &bounds));
     assert!(rt; agrees_when_damaged(&query, &plan, &mut bounds));
+    Ok(())
+}
+
+#[test]
+fn costs_of_the_greatest_cardinalities(rt: HostRuntime) -> Result<(), Fail> {
+    let alloc = rt.alloc();
+    let rels = vec![in alloc; rel(INPUT_CAP), rel(INPUT_CAP)]?;
+    let query = Query::new(rels, vec![in alloc; pred(0, 1, 1)]?)?;
+    let plan = join(alloc, HASH, Tree::Leaf(0), Tree::Leaf(1))?;
+    // both sides and the output have as many rows as a set is counted to have
+    let cost = 4 * ROW_CAP;
+    let mut bounds = [0, 0, 0, cost];
+    assert!(rt; check_cert(&query, &Ops, &plan, &bounds));
+    assert!(rt; agrees_when_damaged(&query, &plan, &mut bounds));
+    assert!(rt; !check_cert(&query, &Ops, &plan, &[0, 0, 0, cost - 1]));
+    assert!(rt; !check_cert(&query, &Ops, &plan, &[0, 0, 0, cost + 1]));
     Ok(())
 }
 

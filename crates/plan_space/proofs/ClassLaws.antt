@@ -2,8 +2,7 @@
 use Rattle.std.proofs.Common.{◌≡◌, ℕ, ◌≤◌, ◌<◌, inl, inr, arith, refl, sym, ◌∙◌, ap, subst}
 use Rattle.dpe_base.specs.declared.TheConstants.{COST_LIMIT, EMPTY}
 use Rattle.dpe_base.specs.Queries.{JoinQuery, IsQuery}
-use Rattle.dpe_base.specs.Sets.{Disjoint, union, single, size}
-use Rattle.dpe_base.proofs.SetLaws.{sets, same_set, member-same}
+use Rattle.dpe_base.specs.Sets.{union, single, size}
 use Rattle.dpe_base.proofs.SizeLaws.{size-single}
 use Rattle.join_graph.specs.Graphs.{JoinGraph, Connected, graph_of}
 use Rattle.card_scaled.specs.Cards.{rows}
@@ -14,7 +13,8 @@ use Rattle.cost_model.proofs.WordLaws.{word_mono, word_not_empty}
 use Rattle.join_tree.specs.Trees.{JoinTree, leaf, join, set_of, cost, root_word, Legal, EverySubtree}
 use Rattle.join_tree.proofs.TreeLaws.{legal_connected, join_size}
 use Rattle.join_tree.proofs.BestLaws.{legal_small, legal_word, word_reads}
-use Rattle.join_tree.proofs.OnePlan.{same_root}
+use Rattle.join_tree.proofs.OnePlan.{same_root, single_same, other_side}
+use Rattle.join_tree.proofs.PlanLaws.{every_root}
 use Rattle.plan_space.specs.declared.class.Class.{Class}
 use Rattle.plan_space.specs.declared.class.Class.TheVariants.{Narrow, ZigZag, LeftDeep}
 use Rattle.plan_space.specs.Classes.{IsLeaf, SidesIn, InClass, LeastIn, PlanIn}
@@ -82,10 +82,6 @@ module _ (c : Class) (model : ℕ) (q : JoinQuery) (ok : IsQuery q) where
 
   -- ---- plans
 
-  every_root : (P : JoinTree → Type 0) (t : JoinTree) → EverySubtree P t → P t
-  every_root P (leaf r) h = h
-  every_root P (join op l r) h = h.0
-
   same_operator : (op a b x y : ℕ) → a ≡ x → b ≡ y → join_cost model op (rows q a) (rows q b) (rows q (union a b)) ≡ join_cost model op (rows q x) (rows q y) (rows q (union x y))
   same_operator op a b x y e f =
       ap (λ s. join_cost model op (rows q s) (rows q b) (rows q (union s b))) e ∙ ap (λ s. join_cost model op (rows q x) (rows q s) (rows q (union x s))) f
@@ -116,12 +112,6 @@ module _ (c : Class) (model : ℕ) (q : JoinQuery) (ok : IsQuery q) where
       record { in_class = inside; over = over; best = (best, px.best, py.best) }
 
   -- ---- at most one plan
-
-  single_same : (r k : ℕ) → single r ≡ single k → r ≡ k
-  single_same r k e = grind (arith, sets, member-same e r)
-
-  other_side : (a x y : ℕ) → Disjoint a x → Disjoint a y → union a x ≡ union a y → x ≡ y
-  other_side a x y d f e = same_set _ _ (λ r. grind (arith, sets, member-same e r))
 
   -- a leaf and a join are not over one set
   apart : (r op : ℕ) (x y : JoinTree) → Legal model (graph_of q) (join op x y) → single r ≡ set_of (join op x y) → ⊥

@@ -6,5 +6,4 @@ pub mod LeastOf
 pub mod LeftLaws
 pub mod ClassPlans
 pub mod LeftSteps
-pub mod RootLaws
 pub mod Nested

@@ -12,15 +12,14 @@ use Rattle.dpe_base.proofs.SizeLaws.{size-single}
 use Rattle.join_graph.specs.Graphs.{JoinGraph, IsGraph, Connected, Pairs, pair_of, graph_of}
 use Rattle.join_graph.specs.PairLists.{HasAllPairs, SideBuilt}
 use Rattle.join_graph.proofs.GraphLaws.{Extended, connected_extended, connected_single, pair_either}
-use Rattle.join_tree.specs.Trees.{JoinTree, leaf, join, set_of, Legal, Trees, Least}
+use Rattle.join_tree.specs.Trees.{JoinTree, leaf, join, set_of, Legal, Trees, Least, Builds}
 use Rattle.join_tree.proofs.TreeLaws.{legal_connected, made_legal}
-use Rattle.pair_stream.specs.Orders.{StandsAt, BuildsSide, Ordered}
+use Rattle.pair_stream.specs.Orders.{StandsAt, BuildsSide, Ordered, Complete}
 use Rattle.pair_stream.proofs.Lists.{contains_filter, contains_from_filter, passes_from_filter}
 use Rattle.pair_stream.proofs.OrderLaws.{MayPrecede, builds_itself}
 use Rattle.plan_space.specs.declared.class.Class.{Class}
 use Rattle.plan_space.specs.declared.class.Class.TheVariants.{Narrow, ZigZag}
 use Rattle.plan_space.specs.Classes.{SidesIn, JoinsIn, InClass, LeastIn}
-use Rattle.plan_space.specs.Laws.{ThinListsHaveTheThinPairs, ThinListsAreOrdered, ThinListsMakeTheClasses, ThinListsGiveLeastWords, ThinPairsBuildTheirSides, ThinPairsMakeTheClasses, ThinPairsGiveLeastWords}
 use Rattle.plan_space.specs.Thin.{is_thin, thin, HasThinPairs}
 use Rattle.plan_space.proofs.ClassLaws.{leaf_one, one_leaf}
 
@@ -105,7 +104,7 @@ thin_built g width pairs ok some all s c many =
       | inr p ↦ (pair_of (single e.last) e.part, (all _).1 (p, inl one), union_comm (single e.last) e.part ∙ e.whole)
     ]
 
-pub thin_pairs_build_their_sides : ThinPairsBuildTheirSides
+pub thin_pairs_build_their_sides : (g : JoinGraph) (width : ℕ) (pairs : List Pair) → IsGraph g → 1 ≤ width → HasThinPairs g width pairs → Builds g pairs
 thin_pairs_build_their_sides g width pairs ok some all =
     record {
       within = λ p c. ((all p).0 c).0;
@@ -123,7 +122,8 @@ ordered_from g width pairs ok some all order =
       sides = (thin_pairs_build_their_sides g width pairs ok some all).sides;
     }
 
-pub thin_lists_are_ordered : ThinListsAreOrdered
+pub thin_lists_are_ordered : (g : JoinGraph) (width : ℕ) (pairs : List Pair) → IsGraph g → 1 ≤ width → Complete g pairs → Ordered pairs
+    → Ordered (thin width pairs) × Builds g (thin width pairs)
 thin_lists_are_ordered g width pairs ok some all order = (
   ordered_from g width (thin width pairs) ok some (in_thin_pairs g width pairs all.members) (thin_may_precede width pairs order),
   thin_pairs_build_their_sides g width (thin width pairs) ok some (in_thin_pairs g width pairs all.members),
@@ -194,29 +194,38 @@ module _ (c : Class) (width model : ℕ) (q : JoinQuery) (pairs : List Pair) (of
     },
   )
 
-pub thin_pairs_make_the_classes : ThinPairsMakeTheClasses
+pub thin_pairs_make_the_classes : (model : ℕ) (q : JoinQuery) (pairs : List Pair) (t : JoinTree) → IsQuery q
+    → (HasThinPairs (graph_of q) 2 pairs → Trees model q pairs t ↔ InClass Narrow model (graph_of q) t)
+    × (HasThinPairs (graph_of q) 1 pairs → Trees model q pairs t ↔ InClass ZigZag model (graph_of q) t)
 thin_pairs_make_the_classes model q pairs t ok = (
   λ all. thin_makes Narrow 2 model q pairs narrow_of_two ok all t,
   λ all. thin_makes ZigZag 1 model q pairs zig_zag_of_one ok all t,
 )
 
-pub thin_pairs_give_least_words : ThinPairsGiveLeastWords
+pub thin_pairs_give_least_words : (model : ℕ) (q : JoinQuery) (pairs : List Pair) (s w : ℕ) → IsQuery q
+    → (HasThinPairs (graph_of q) 2 pairs → Least model q pairs s w ↔ LeastIn Narrow model q s w)
+    × (HasThinPairs (graph_of q) 1 pairs → Least model q pairs s w ↔ LeastIn ZigZag model q s w)
 thin_pairs_give_least_words model q pairs s w ok = (
   λ all. thin_least Narrow 2 model q pairs narrow_of_two ok all s w,
   λ all. thin_least ZigZag 1 model q pairs zig_zag_of_one ok all s w,
 )
 
-pub thin_lists_make_the_classes : ThinListsMakeTheClasses
+pub thin_lists_make_the_classes : (model : ℕ) (q : JoinQuery) (pairs : List Pair) (t : JoinTree) → IsQuery q → Complete (graph_of q) pairs
+    → (Trees model q (thin 2 pairs) t ↔ InClass Narrow model (graph_of q) t)
+    × (Trees model q (thin 1 pairs) t ↔ InClass ZigZag model (graph_of q) t)
 thin_lists_make_the_classes model q pairs t ok all = (
   (thin_pairs_make_the_classes model q (thin 2 pairs) t ok).0 (in_thin_pairs (graph_of q) 2 pairs all.members),
   (thin_pairs_make_the_classes model q (thin 1 pairs) t ok).1 (in_thin_pairs (graph_of q) 1 pairs all.members),
 )
 
-pub thin_lists_give_least_words : ThinListsGiveLeastWords
+pub thin_lists_give_least_words : (model : ℕ) (q : JoinQuery) (pairs : List Pair) (s w : ℕ) → IsQuery q → Complete (graph_of q) pairs
+    → (Least model q (thin 2 pairs) s w ↔ LeastIn Narrow model q s w)
+    × (Least model q (thin 1 pairs) s w ↔ LeastIn ZigZag model q s w)
 thin_lists_give_least_words model q pairs s w ok all = (
   (thin_pairs_give_least_words model q (thin 2 pairs) s w ok).0 (in_thin_pairs (graph_of q) 2 pairs all.members),
   (thin_pairs_give_least_words model q (thin 1 pairs) s w ok).1 (in_thin_pairs (graph_of q) 1 pairs all.members),
 )
 
-pub thin_lists_have_the_thin_pairs : ThinListsHaveTheThinPairs
+pub thin_lists_have_the_thin_pairs : (g : JoinGraph) (width : ℕ) (pairs : List Pair) (p : Pair) → HasAllPairs g pairs
+    → Contains (thin width pairs) p ↔ (Pairs g p × ((size p.a ≤ width) ⊎ (size p.b ≤ width)))
 thin_lists_have_the_thin_pairs g width pairs p all = in_thin_pairs g width pairs all p

@@ -3,5 +3,3 @@ pub mod Thin
 pub mod ZigZag
 pub mod ZigZagLeft
 pub mod LeastWords
-pub mod Roots
-pub mod Laws

@@ -126,8 +126,9 @@ fn left_word<M: CostModel>(
     }
 }
 
-/// The least word of the left-deep trees over each set of relations, at the set's number, or `EMPTY` when no left-deep tree is over the
-/// set. It takes at most one step for each set and each of its relations.
+/// The least word of the left-deep trees over each set of relations, at the set's number; `EMPTY` when there is no such tree.
+///
+/// It takes one step for each set and each of its relations at most: n * 2^n for n relations.
 ///
 /// Fails when memory runs out.
 pub fn left_words<M: CostModel>(
@@ -139,12 +140,14 @@ pub fn left_words<M: CostModel>(
     requires connected { Connected (graph_of query.now) (full (relations query.now)) }
     requires cards { IsCardTable query.now cards.now }
     ensures sized { IfOk result (λ v. length v.items ≡ 2 ^ relations query.now) }
-    ensures places { IfOk result (λ v. (s : ℕ) → s < 2 ^ relations query.now → LeastOrEmpty LeftDeep M.KIND query.now s (slice_index v.items s)) }
+    ensures places { IfOk result (λ v. (s : ℕ) → s < 2 ^ relations query.now
+        → LeastOrEmpty LeftDeep M.KIND query.now s (slice_index v.items s)) }
     ensures words { IfOk result (λ v. HasLeastWords LeftDeep M.KIND query.now v.items (full (relations query.now))) }
 {
     let graph = Graph::of(query);
     let size = 1usize << query.n();
     let mut words = vec![in alloc; EMPTY; size]?;
+    // each subset of a set has a smaller number, so its word is there already
     for k in 1..size {
         let s = RelSet::of_bits(k as u32);
         let word = left_word(query, &graph, model, cards, &words, s);

@@ -64,5 +64,6 @@ impl<P: PairStream> PairStream for Thin<P> {
         self.pairs.probes()
     }
 
-    ghost at_end = { λ s t. ended_filter (is_thin s.pairs.test.width) (P.left s.pairs.inner) (P.probed s.pairs.inner) (P.total s.pairs.inner) (P.at_end s.pairs.inner t) };
+    ghost at_end = { λ s t. ended_filter (is_thin s.pairs.test.width) (P.left s.pairs.inner) (P.probed s.pairs.inner)
+        (P.total s.pairs.inner) (P.at_end s.pairs.inner t) };
 }

@@ -1,6 +1,6 @@
 use Rattle.std.proofs.Common.{◌∙◌, ap, subst}
 use Rattle.dpe_base.specs.Sets.{Has, full}
-use Rattle.plan_space.proofs.tests.the_left_deep_plan_is_built_from_its_words.Goals as goal
+use Rattle.plan_space.proofs.tests.plans.the_left_deep_plan_is_built_from_its_words.Goals as goal
 
 pub build_class-requires-clause-least : goal.build_class-requires-clause-least
 build_class-requires-clause-least g c κs =
