@@ -6,7 +6,6 @@ pub mod Splits
 pub mod Gathers
 pub mod Rounds
 pub mod Settles
-pub mod Levels
 pub mod Places
 pub mod Members
 pub mod Advances

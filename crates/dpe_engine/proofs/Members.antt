@@ -44,11 +44,3 @@ counted_none n rounds_done xs none = let e = groups_more n xs in let o = one (le
   where
     one : (k : ℕ) → k ≡ 0 → cond (nat_lt 0 k) 1 0 + 0 ≡ 0
     one k none = grind (arith, nat_tests)
-
--- the front of a list, with the next piece
-pub take_more : (k : ℕ) (whole xs ys : List Pair) → k ≤ length whole → whole ≡ take k whole ++ (xs ++ ys) → take (k + length xs) whole ≡ take k whole ++ xs
-take_more k whole xs ys h is =
-    let front : List Pair = take k whole ++ xs in
-    let e : whole ≡ front ++ ys = is ∙ sym (append_assoc (take k whole) xs ys) in
-    let n : k + length xs ≡ length front = let a = length-append (take k whole) xs in let b = length-take-le k whole h in omega arith in
-    ap (λ (i : ℕ). take i whole) n ∙ (ap (λ (l : List Pair). take (length front) l) e ∙ take-append_seam front ys)

@@ -50,7 +50,7 @@ stays_settled model v w s q p grow settled =
     record { word = settled.word; bound = grow (s, settled.word) settled.bound; least = rw (q, p) settled.least }
 
 -- what an offer leaves
-record IsOffered (v after : View) (s w : ℕ) : Type 0 where
+pub record IsOffered (v after : View) (s w : ℕ) : Type 0 where
   pub query : after.query ≡ v.query
   pub pairs : after.pairs ≡ v.pairs
   pub bounds : (b : ℕ × ℕ) → Contains v.bounds b → Contains after.bounds b
@@ -60,7 +60,7 @@ record IsOffered (v after : View) (s w : ℕ) : Type 0 where
   pub allowance : after.allowance ≡ v.allowance
   pub known : (w ≡ EMPTY) ⊎ Contains after.bounds (s, w)
 
-offering : (v : View) (s w : ℕ) → IsOffered v (with_offer v s w) s w
+pub offering : (v : View) (s w : ℕ) → IsOffered v (with_offer v s w) s w
 offering v s w = dite (ℕ_discrete w EMPTY)
     (λ (e : w ≡ EMPTY). let F : Bool → Type 0 = λ b. IsOffered v (offer_if v s w b) s w in
     subst F (sym (eq-eqb w EMPTY e)) record { query = refl; pairs = refl; bounds = λ b h. h; floor = refl; weight = refl; tickets = refl; allowance = refl; known = inl e })

@@ -1,4 +1,4 @@
--- Where pairs stand in an ordered list, how many a list can have, and those of smaller unions.
+-- How many pairs a list can have, and those of smaller unions.
 use Rattle.std.proofs.Common.{◌≡◌, ◌≢◌, ◌↔◌, ℕ, ◌+◌, ◌*◌, ◌/◌, ◌%◌, ◌^◌, ◌<◌, ◌≤◌, ◌==◌, inl, inr, nat_lt, Bool, true, false, cond, List, [], ◌∷◌, ◌++◌, All, AllPairs, Contains, map, length, get_or, eqb, refl, sym, subst, ap, ◌∙◌, arith, zero-add, add-mul, mul-le-mul, mul-le-mul_right, eq-eqb, eqb-true}
 use Rattle.std.specs.List.{list_any}
 use Rattle.std.proofs.lemmas.Bool.{cases_lt, lt-ltb}
@@ -14,39 +14,14 @@ use Rattle.dpe_base.specs.declared.TheConstants.{N_MAX}
 use Rattle.dpe_base.specs.declared.pair.Pair.{Pair}
 use Rattle.dpe_base.specs.Queries.{JoinQuery, relations, IsQuery}
 use Rattle.dpe_base.proofs.SizeLaws.{full_below}
-use Rattle.join_graph.specs.Graphs.{graph_of}
-use Rattle.join_tree.specs.Trees.{Builds}
-use Rattle.pair_stream.specs.Orders.{StandsAt, Once, BuildsSide, Ordered}
+use Rattle.join_graph.specs.Graphs.{Pairs, graph_of}
+use Rattle.pair_stream.specs.Orders.{Once}
 use Rattle.dpe_base.proofs.Members.{contains_none, contains_cases}
 use Rattle.pair_stream.proofs.Lists.{contains_filter, contains_from_filter, passes_from_filter, contains_from_map, pairs_map}
 use Rattle.reorder_buffer.specs.declared.TheConstants.{SIZES}
 use Rattle.reorder_buffer.specs.Groups.{union_size, group_of}
 use Rattle.reorder_buffer.specs.Buffers.{AreSmall}
 use Rattle.dpe_engine.specs.Between.{below}
-
--- ---- places
-
-stands_after : (xs ys : List Pair) (p : Pair) → StandsAt (xs ++ p ∷ ys) (length xs) p
-stands_after [] ys p = (omega arith, refl)
-stands_after (x ∷ xs) ys p = let h : StandsAt (xs ++ p ∷ ys) (length xs) p = stands_after xs ys p in (omega (arith, h.0), h.1)
-
--- a pair that builds a side of p stands before p
-pub stands_before : (pairs xs ys : List Pair) (p r : Pair) → Ordered pairs → pairs ≡ xs ++ p ∷ ys → Contains pairs r → BuildsSide r p → Contains xs r
-stands_before pairs xs ys p r order is c builds =
-    let F : List Pair → Type 0 = λ l. StandsAt l (length xs) p in
-    let at : StandsAt pairs (length xs) p = subst F (sym is) (stands_after xs ys p) in
-    let low : c.0 < length xs = order.before c.0 (length xs) r p (c.1, c.2) at builds in
-    let G : List Pair → Type 0 = λ l. get_or l c.0 r ≡ r in
-    (c.0, low, sym (get_or_append_left xs (p ∷ ys) r c.0 low) ∙ subst G is c.2)
-
--- a list is cut at a member
-pub split_at : (xs : List Pair) (p : Pair) → Contains xs p → (ys : List Pair) × (zs : List Pair) × (xs ≡ ys ++ p ∷ zs)
-split_at [] p c = absurd (contains_none p c)
-split_at (x ∷ xs) p c =
-    elim (contains_cases x xs p c) [
-      | inl e ↦ ([], xs, ap (λ (y : Pair). y ∷ xs) e)
-      | inr d ↦ let r : (ys : List Pair) × (zs : List Pair) × (xs ≡ ys ++ p ∷ zs) = split_at xs p d in (x ∷ r.0, r.1, ap (λ (l : List Pair). x ∷ l) r.2)
-    ]
 
 -- ---- how many pairs
 
@@ -79,16 +54,16 @@ few_below m pairs once low =
     inside : (n : ℕ) → (p : Pair) × Contains pairs p × (digits m p ≡ n) → n < m * m
     inside n r = let b = digits_below m r.0 (low r.0 r.1).0 (low r.0 r.1).1 in let e = r.2 in omega arith
 
-pub few_pairs : (q : JoinQuery) (pairs : List Pair) → IsQuery q → Builds (graph_of q) pairs → Once pairs → length pairs ≤ 4 ^ relations q
-few_pairs q pairs ok builds once =
-    let few = few_below (2 ^ relations q) pairs once (λ p c. (full_below p.a (relations q) (builds.within p c).first.within, full_below p.b (relations q) (builds.within p c).second.within)) in
+pub few_pairs : (q : JoinQuery) (pairs : List Pair) → IsQuery q → ((p : Pair) → Contains pairs p → Pairs (graph_of q) p) → Once pairs → length pairs ≤ 4 ^ relations q
+few_pairs q pairs ok within once =
+    let few = few_below (2 ^ relations q) pairs once (λ p c. (full_below p.a (relations q) (within p c).first.within, full_below p.b (relations q) (within p c).second.within)) in
     let same : 4 ^ relations q ≡ 2 ^ relations q * 2 ^ relations q = mul-pow 2 2 (relations q) in
     omega arith
 
 -- and so fewer than the tickets of a memo by far
-pub few_in_all : (q : JoinQuery) (pairs : List Pair) → IsQuery q → Builds (graph_of q) pairs → Once pairs → length pairs ≤ 4 ^ N_MAX
-few_in_all q pairs ok builds once =
-    let few = few_pairs q pairs ok builds once in
+pub few_in_all : (q : JoinQuery) (pairs : List Pair) → IsQuery q → ((p : Pair) → Contains pairs p → Pairs (graph_of q) p) → Once pairs → length pairs ≤ 4 ^ N_MAX
+few_in_all q pairs ok within once =
+    let few = few_pairs q pairs ok within once in
     let same : 4 ^ relations q ≡ 2 ^ relations q * 2 ^ relations q = mul-pow 2 2 (relations q) in
     let low : 2 ^ relations q ≤ 2 ^ N_MAX = pow_mono {i = relations q} {j = N_MAX} ok.few in
     let most : 2 ^ relations q * 2 ^ relations q ≤ 2 ^ N_MAX * 2 ^ N_MAX = mul-le-mul low low in

@@ -28,10 +28,3 @@ module _ (model : ℕ) (v : View) (ok : IsQuery v.query) (made : BoundsAreMade m
       let G : ℕ → Type 0 = λ w. Contains v.bounds (s, w) in
       record { word = best.word; bound = subst G same has; least = best.least })
       (done best.pair best.listed best.over best.word best.of_pair)
-
-  -- a set that the list builds is settled, where the leaves are and its pairs are done
-  pub built_settled : (s : ℕ) → IsWorkable model v.query v.pairs → ((r : ℕ) → r < relations v.query → Settled model v (single r)) → IsBuilt v.query v.pairs s → AllDone model v s → Settled model v s
-  built_settled s law leaves built done = ⊎_elim
-      (λ (leaf : (r : ℕ) × (r < relations v.query) × (s ≡ single r)). let F : ℕ → Type 0 = Settled model v in subst F (sym leaf.2) (leaves leaf.0 leaf.1))
-      (λ (pair : (p : Pair) × Contains v.pairs p × (union p.a p.b ≡ s)). let F : ℕ → Type 0 = HasBestPair model v.query v.pairs in settles s (subst F pair.2 (law.best_pair pair.0 pair.1)) done)
-      built

@@ -1,25 +1,16 @@
 //! A whole run: all pairs of a stream are processed, buffer by buffer.
-ghost use Rattle.std.specs.Prelude.{◌≡◌, ◌+◌, ◌*◌, ◌<◌, ◌≤◌, ◌^◌, ◌⊎◌, IsTrue, IfOk, Contains, length};
+ghost use Rattle.std.specs.Prelude.{◌≡◌, ◌≤◌, IsTrue, IfOk, Contains};
 ghost use Rattle.dpe_base.specs.declared.pair.Pair.{Pair};
-ghost use Rattle.dpe_base.specs.Queries.{relations};
 ghost use Rattle.join_graph.specs.Graphs.{Pairs, graph_of};
 ghost use Rattle.pair_stream.specs.Orders.{Ordered};
-ghost use Rattle.reorder_buffer.specs.Groups.{runs, rounds};
-ghost use Rattle.dpe_engine.specs.Engines.{AreLeastWords, EnginePlan, IsSolved};
-ghost use Rattle.dpe_engine.specs.Between.{plan_of, HasEnded};
+ghost use Rattle.dpe_engine.specs.Engines.{IsSolved};
 
 use crate::gate::Gate;
-use crate::run::alone;
-use crate::run::consumer::Consumer;
-use crate::run::pipeline::{exchange, work_all};
-use crate::run::producer::Producer;
-use crate::run::shared::Shared;
-use card_scaled::CardTable;
+use crate::seeded::SeededEngine;
 use cost_model::CostModel;
-use dpe_base::{BUFFER_MAX, N_MAX, Query, WORKERS_MAX};
-use memo_table::{Memo, MemoSeat, Words};
+use dpe_base::{BUFFER_MAX, Query, WORKERS_MAX};
+use memo_table::Words;
 use pair_stream::PairStream;
-use reorder_buffer::Buffer;
 use std::alloc::{AllocError, Global};
 use std::marker::Model;
 use std::thread::Threads;
@@ -41,64 +32,18 @@ pub struct Solved {
 /// processed, how many of them a buffer holds, and how many workers there are.
 #[derive(Drop)]
 pub struct Engine<M: CostModel> {
-    shared: Shared<M>,
-    consumer: Consumer<M>,
-    // The buffer that is filled first.
-    next: Buffer,
-    // As asked for. The two buffers may have less room, where a list can't fill it.
-    buffer: u32,
+    seeded: SeededEngine<M>,
 }
 
 impl<M: CostModel> Model for Engine<M> {
+    ghost use Rattle.pair_stream.specs.Orders.{Ordered};
     ghost use Rattle.dpe_engine.specs.Engines.{EnginePlan};
-    ghost use Rattle.dpe_engine.specs.Between.{IsPrepared};
 
     ghost Value = { EnginePlan };
 
-    ghost view = { λ e. record { query = e.shared.memo.query; pairs = e.shared.memo.pairs; buffer = e.buffer; workers = e.shared.workers } };
+    ghost view = { λ e. e.seeded.plan };
 
-    ghost invariant = { λ e. IsPrepared M.KIND e.buffer e.shared e.next e.consumer };
-}
-
-// How many pairs there is room for: a pair is two sets, and a buffer that has room for one more than there are pairs of
-// sets is never full.
-fn room_for(n: u8, buffer: u32) -> u32
-    requires relations { n ≤ N_MAX }
-    requires some { 1 ≤ buffer }
-    ensures within { (1 ≤ result) × (result ≤ buffer) }
-    ensures enough { (result ≡ buffer) ⊎ (4 ^ n < result) }
-{
-    let sets = 1u64 << n;
-    let most = sets * sets + 1;
-    most.min(buffer as u64) as u32
-}
-
-// The words of the memo once all pairs are processed, and the counts.
-fn finish<M: CostModel>(shared: Shared<M>, consumer: Consumer<M>) -> Solved
-    requires { HasEnded M.KIND shared consumer }
-    ensures { IsSolved M.KIND (plan_of shared consumer) result }
-{
-    let Shared {
-        memo,
-        model: _,
-        cards: _,
-        workers: _,
-    } = shared;
-    let Consumer {
-        full: _,
-        seat,
-        crew: _,
-        pairs,
-        buffers,
-        rounds,
-    } = consumer;
-    let words = memo.finish(seat);
-    Solved {
-        words,
-        pairs,
-        buffers,
-        rounds,
-    }
+    ghost invariant = { λ e. Ordered e.seeded.plan.pairs };
 }
 
 impl<M: CostModel> Engine<M> {
@@ -123,34 +68,8 @@ impl<M: CostModel> Engine<M> {
         requires ordered { Ordered (P.left stream.now) }
         ensures { IfOk result (λ e. e ≡ record { query = query.now; pairs = P.left stream.now; buffer = buffer; workers = workers }) }
     {
-        let n = query.n();
-        let (memo, mut seat) = Memo::make(alloc, query, stream)?;
-        memo.drawn(&mut seat);
-        let cards = CardTable::make(alloc, query)?;
-        let crew = Vec::with_capacity(alloc, workers as usize)?;
-        let room = room_for(n, buffer);
-        let full = Buffer::with_capacity(alloc, room)?;
-        let next = Buffer::with_capacity(alloc, room)?;
-        let shared = Shared {
-            memo,
-            model,
-            cards,
-            workers,
-        };
-        let consumer = Consumer {
-            full,
-            seat,
-            crew,
-            pairs: 0,
-            buffers: 0,
-            rounds: 0,
-        };
-        Ok(Engine {
-            shared,
-            consumer,
-            next,
-            buffer,
-        })
+        let seeded = SeededEngine::prepare(alloc, query, model, buffer, workers, stream)?;
+        Ok(Engine { seeded })
     }
 
     /// Processes all pairs of the stream, and hands the stream back.
@@ -176,26 +95,12 @@ impl<M: CostModel> Engine<M> {
         gate: &G,
     ) -> (Solved, P)
         requires named { P.left stream ≡ self.pairs }
-        ensures size { length result.0.words.row ≡ 2 ^ relations self.query }
-        ensures words { AreLeastWords M.KIND self.query self.pairs result.0.words.row }
-        ensures pairs { result.0.pairs ≡ length self.pairs }
-        ensures drawn { result.0.words.drawn ≡ result.0.pairs + self.workers * result.0.rounds }
-        ensures buffers { result.0.buffers ≡ length (runs self.buffer self.pairs) }
-        ensures rounds { result.0.rounds ≡ rounds self.buffer self.pairs }
+        ensures solved { IsSolved M.KIND self result.0 }
         ensures ended { IsTrue (P.ended result.1) }
         ensures total { P.total result.1 ≡ P.total stream }
     {
-        let Engine {
-            shared,
-            consumer,
-            next,
-            buffer: _,
-        } = self;
-        let producer = Producer { stream, next }.fill(gate, 0);
-        let (producer, consumer) = exchange(producer, consumer);
-        let (producer, consumer) = work_all(rt, &shared, gate, producer, consumer);
-        let Producer { stream, next: _ } = producer;
-        (finish(shared, consumer), stream)
+        let Engine { seeded } = self;
+        seeded.run(rt, stream, gate)
     }
 
     /// Does the same in the calling thread alone, and starts no thread: each buffer is filled before the last one is
@@ -203,25 +108,11 @@ impl<M: CostModel> Engine<M> {
     /// threads; the numbers and the words are those of `run`.
     pub fn run_alone<P: PairStream, G: Gate>(self, stream: P, gate: &G) -> (Solved, P)
         requires named { P.left stream ≡ self.pairs }
-        ensures size { length result.0.words.row ≡ 2 ^ relations self.query }
-        ensures words { AreLeastWords M.KIND self.query self.pairs result.0.words.row }
-        ensures pairs { result.0.pairs ≡ length self.pairs }
-        ensures drawn { result.0.words.drawn ≡ result.0.pairs + self.workers * result.0.rounds }
-        ensures buffers { result.0.buffers ≡ length (runs self.buffer self.pairs) }
-        ensures rounds { result.0.rounds ≡ rounds self.buffer self.pairs }
+        ensures solved { IsSolved M.KIND self result.0 }
         ensures ended { IsTrue (P.ended result.1) }
         ensures total { P.total result.1 ≡ P.total stream }
     {
-        let Engine {
-            shared,
-            consumer,
-            next,
-            buffer: _,
-        } = self;
-        let producer = Producer { stream, next }.fill(gate, 0);
-        let (producer, consumer) = exchange(producer, consumer);
-        let (producer, consumer) = alone::work_all(&shared, gate, producer, consumer);
-        let Producer { stream, next: _ } = producer;
-        (finish(shared, consumer), stream)
+        let Engine { seeded } = self;
+        seeded.run_alone(stream, gate)
     }
 }

@@ -4,9 +4,8 @@ use Rattle.dpe_base.specs.declared.query.Rel.{Rel}
 use Rattle.dpe_base.specs.Queries.{JoinQuery, relations, rels_with_rows, with_rows}
 use Rattle.dpe_base.specs.Sets.{full}
 use Rattle.join_graph.specs.Graphs.{JoinGraph, Connected, graph_of}
-use Rattle.reopt.specs.declared.replan.Replanned.{Replanned}
-use Rattle.reopt.specs.Keeping.{IsBestWord, AreBestWords, IsReplanned}
-use Rattle.reopt.specs.Sessions.{KeepsOthers}
+use Rattle.dpe_engine.specs.declared.engine.Solved.{Solved}
+use Rattle.reopt.specs.Keeping.{IsBestWord, AreBestWords, KeepsOthers, IsReplanned}
 use Rattle.reopt.proofs.OtherSets.{same_relations, same_graph, best_stays}
 
 rels_back : (xs : List Rel) (r n : ℕ) (d : Rel) → r < length xs → rels_with_rows (rels_with_rows xs r n) r (get_or xs r d).rows ≡ xs
@@ -48,7 +47,7 @@ module _ (q p : JoinQuery) (r n : ℕ) (is : p ≡ with_rows q r n) where
               subst F (sym is) new;
         }
 
-    pub words_again : (b w : ℕ) (again : Replanned) → IsReplanned kind p r b w again → AreBestWords kind p again.words.row
+    pub words_again : (b w : ℕ) (again : Solved) → IsReplanned kind p r b w again → AreBestWords kind p again.words.row
     words_again b w again a =
         let F : JoinGraph → Type 0 = λ g. Connected g (full (relations q)) in
         let G : ℕ → Type 0 = λ k. Connected (graph_of p) (full k) in

@@ -1,7 +1,4 @@
 pub mod OtherSets
-pub mod Rests
-pub mod Endings
-pub mod Buffers
 pub mod WordOffers
 pub mod Beginnings
 pub mod FromScratch

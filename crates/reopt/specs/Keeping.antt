@@ -3,14 +3,14 @@ use Rattle.std.specs.Prelude.{◌≡◌, ℕ, ◌+◌, ◌*◌, ◌^◌, ◌<◌
 use Rattle.dpe_base.specs.declared.TheConstants.{EMPTY}
 use Rattle.dpe_base.specs.declared.pair.Pair.{Pair}
 use Rattle.dpe_base.specs.Queries.{JoinQuery, relations, with_rows}
-use Rattle.dpe_base.specs.Sets.{full}
+use Rattle.dpe_base.specs.Sets.{Has, full}
 use Rattle.join_graph.specs.Graphs.{Connected, graph_of}
 use Rattle.join_tree.specs.Trees.{Best}
 use Rattle.memo_table.specs.Finishing.{FinalWords}
 use Rattle.pair_stream.specs.Orders.{Complete}
 use Rattle.enum_dpccp.specs.Dpccp.{seq_dpccp}
 use Rattle.reorder_buffer.specs.Groups.{rounds}
-use Rattle.reopt.specs.declared.replan.Replanned.{Replanned}
+use Rattle.dpe_engine.specs.declared.engine.Solved.{Solved}
 use Rattle.reopt.specs.Touching.{touching}
 
 -- the query, and its words
@@ -29,12 +29,24 @@ pub record AreBestWords (kind : ℕ) (q : JoinQuery) (row : List ℕ) : Type 0 w
   pub size : length row ≡ 2 ^ relations q
   pub each : (s : ℕ) → s < 2 ^ relations q → IsBestWord kind q s (slice_index_or row s 0)
 
+-- the query was planned over all its pairs, by buffers of so many and by so many workers
+pub record IsPlanned (q : JoinQuery) (b w : ℕ) (kept : KeptWords) : Type 0 where
+  pub query : kept.query ≡ q
+  -- the pairs of the query, each once
+  pub listed : Complete (graph_of q) (seq_dpccp (graph_of q))
+  pub drawn : kept.words.drawn ≡ length (seq_dpccp (graph_of q)) + w * rounds b (seq_dpccp (graph_of q))
+
+-- the row has the best words of the query, but of the sets with relation r
+pub record KeepsOthers (kind : ℕ) (q : JoinQuery) (r : ℕ) (row : List ℕ) : Type 0 where
+  pub size : length row ≡ 2 ^ relations q
+  pub each : (s : ℕ) → s < 2 ^ relations q → (Has s r → ⊥) → IsBestWord kind q s (slice_index_or row s 0)
+
 -- the pairs of the query that a change of relation r touches
 abbrev pub touched_pairs : JoinQuery → ℕ → List Pair
 touched_pairs q r = touching r (seq_dpccp (graph_of q))
 
 -- what processing the pairs again that a change of relation r touches leaves
-pub record IsReplanned (kind : ℕ) (q : JoinQuery) (r b w : ℕ) (result : Replanned) : Type 0 where
+pub record IsReplanned (kind : ℕ) (q : JoinQuery) (r b w : ℕ) (result : Solved) : Type 0 where
   pub size : length result.words.row ≡ 2 ^ relations q
   pub each : (s : ℕ) → s < 2 ^ relations q → IsBestWord kind q s (slice_index_or result.words.row s 0)
   -- the pairs of the query, each once

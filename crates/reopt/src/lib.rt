@@ -5,15 +5,14 @@
 //! relation are processed again ([`Touching`]). The words of all other sets are the same in both queries ([`laws`]), so they
 //! are offered to a new memo before its workers begin.
 //!
-//! Begin with `kept.rt`, and then `replan.rt`, which does the work in one `Session`: `specs/Between.antt` says what is known
-//! between two rounds, for any sets that were settled before the first one.
+//! Begin with `kept.rt`, and then `replan.rt`: the engine for it is `SeededEngine` of `dpe_engine`, whose run processes what
+//! known words leave.
 #![tactic(auto)]
 
 mod kept;
 pub mod laws;
 mod offers;
 mod replan;
-mod session;
 #[cfg(test)]
 mod tests;
 mod touching;

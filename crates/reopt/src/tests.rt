@@ -17,18 +17,43 @@ use std::sync::atomic::{AtomicU64, Ordering};
 use std::test::Fail;
 use std::thread::Threads;
 
-// Counts the draws.
+// Counts the draws, the buffers, and those that were named out of turn.
 #[derive(Drop)]
-struct Draws {
-    count: AtomicU64,
+struct Notes {
+    draws: AtomicU64,
+    buffers: AtomicU64,
+    strays: AtomicU64,
 }
 
-impl Gate for Draws {
-    fn before(&self, _worker: u32, _ticket: u64) {
-        self.count.fetch_add(1, Ordering::SeqCst);
+impl Notes {
+    fn new() -> Notes {
+        Notes {
+            draws: AtomicU64::new(0),
+            buffers: AtomicU64::new(0),
+            strays: AtomicU64::new(0),
+        }
     }
 
-    fn filling(&self, _buffer: u64) {}
+    // How many draws, buffers and strays there were.
+    fn counts(&self) -> (u64, u64, u64) {
+        (
+            self.draws.load(Ordering::SeqCst),
+            self.buffers.load(Ordering::SeqCst),
+            self.strays.load(Ordering::SeqCst),
+        )
+    }
+}
+
+impl Gate for Notes {
+    fn before(&self, _worker: u32, _ticket: u64) {
+        self.draws.fetch_add(1, Ordering::SeqCst);
+    }
+
+    fn filling(&self, buffer: u64) {
+        if self.buffers.fetch_add(1, Ordering::SeqCst) != buffer {
+            self.strays.fetch_add(1, Ordering::SeqCst);
+        }
+    }
 }
 
 #[derive(Clone, Copy)]
@@ -109,18 +134,43 @@ fn touched(alloc: Global, query: &Query, r: u8) -> Result<usize, AllocError>
 
 #[test]
 fn a_change_at_the_end_of_a_chain(rt: HostRuntime) -> Result<(), Fail> {
-    let query = query_of(rt.alloc(), Shape::Chain, &[10, 10, 10])?;
+    let query = query_of(rt.alloc(), Shape::Chain, &[10; 3])?;
+    assert_eq!(rt; query.n(), 3);
     assert!(rt; Graph::of(&query).first_unreached().is_none());
-    let mut kept = keep(&rt, rt.alloc(), query)?;
-    let gate = Draws {
-        count: AtomicU64::new(0),
-    };
-    assert_eq!(rt; kept.query().n(), 3);
+    let mut kept = Kept::planned(&rt, rt.alloc(), query, Ops, 4096, 4, &OpenGate)?;
+    let gate = Notes::new();
     let again = kept.change(&rt, rt.alloc(), 2, 20, 4096, 4, &gate)?;
     assert_eq!(rt; again, 3);
     // a draw for each pair, and one for each of four workers in two rounds
-    assert_eq!(rt; gate.count.load(Ordering::SeqCst), 11);
+    assert_eq!(rt; gate.counts(), (11, 1, 0));
     assert_eq!(rt; kept.words().drawn(), 11);
+    Ok(())
+}
+
+// Three full buffers of one pair and an empty one. A round of one worker draws a ticket past its pair.
+#[test]
+fn a_gate_is_told_of_each_buffer(rt: HostRuntime) -> Result<(), Fail> {
+    let query = query_of(rt.alloc(), Shape::Chain, &[10; 3])?;
+    assert_eq!(rt; query.n(), 3);
+    assert!(rt; Graph::of(&query).first_unreached().is_none());
+    let mut kept = Kept::planned(&rt, rt.alloc(), query, Ops, 4096, 4, &OpenGate)?;
+    let gate = Notes::new();
+    kept.change(&rt, rt.alloc(), 2, 20, 1, 1, &gate)?;
+    assert_eq!(rt; gate.counts(), (6, 4, 0));
+    Ok(())
+}
+
+// The pairs of the 19 intervals that end at the last relation, of 2 to 20 relations: one fewer than each has relations.
+#[test]
+fn a_change_of_a_chain_of_twenty(rt: HostRuntime) -> Result<(), Fail> {
+    let query = query_of(rt.alloc(), Shape::Chain, &[10; 20])?;
+    assert_eq!(rt; query.n(), 20);
+    assert!(rt; Graph::of(&query).first_unreached().is_none());
+    let mut kept = Kept::planned(&rt, rt.alloc(), query, Ops, 4096, 4, &OpenGate)?;
+    let again = kept.change(&rt, rt.alloc(), 19, 500, 4096, 4, &OpenGate)?;
+    assert_eq!(rt; again, 190);
+    let anew = words_of(&rt, rt.alloc(), kept.query())?;
+    assert!(rt; kept.words().row() == anew.row());
     Ok(())
 }
 

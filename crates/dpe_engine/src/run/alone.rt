@@ -1,9 +1,11 @@
 //! A run in the calling thread alone: buffers are filled and processed in turn, and the workers of a group take turns.
-ghost use Rattle.std.specs.Prelude.{◌≡◌, ◌+◌, ◌<◌, ◌≤◌, IsTrue, length};
+ghost use Rattle.std.specs.Prelude.{◌≡◌, ◌+◌, ◌<◌, ◌≤◌, IsTrue, List, length};
+ghost use Rattle.dpe_base.specs.declared.pair.Pair.{Pair};
 ghost use Rattle.reorder_buffer.specs.Groups.{groups_below};
 ghost use Rattle.dpe_engine.specs.Working.{IsMemoOfQuery, IsReady, HasWorked};
 ghost use Rattle.dpe_engine.specs.Rounds.{AreReady, HaveWorked};
-ghost use Rattle.dpe_engine.specs.Between.{IsAtGroup, IsSameBuffer, MayWorkBuffer, HasWorkedBuffer, IsRunning, HasEnded};
+ghost use Rattle.dpe_engine.specs.Between.{HasFreeCrew, IsAtGroup, MayWorkGroup, IsSameBuffer};
+ghost use Rattle.dpe_engine.specs.Running.{MayWorkBuffer, HasWorkedBuffer, IsRunning, HasCounted, HasSameTotals, HasEnded, to_come};
 
 use crate::gate::Gate;
 use crate::run::consumer::Consumer;
@@ -60,8 +62,9 @@ fn work_group<M: CostModel, G: Gate>(
     consumer: &mut Consumer<M>,
 )
     requires size { size < SIZES }
-    requires at { IsAtGroup M.KIND shared.now size consumer.old }
-    ensures at { IsAtGroup M.KIND shared.now (size + 1) consumer.new }
+    requires may { MayWorkGroup M.KIND shared.now size consumer.old }
+    ensures at { (later : List Pair) → IsAtGroup M.KIND shared.now size consumer.old later → IsAtGroup M.KIND shared.now (size + 1) consumer.new later }
+    ensures free { HasFreeCrew shared.now consumer.new }
     ensures counted { consumer.new.rounds + length (groups_below size consumer.old.full.pairs) ≡ consumer.old.rounds + length (groups_below (size + 1) consumer.old.full.pairs) }
     ensures same { IsSameBuffer consumer.old consumer.new }
 {
@@ -111,8 +114,8 @@ fn step<P: PairStream, M: CostModel, G: Gate>(
     requires full { length consumer.full.pairs ≡ consumer.full.room }
     ensures running { IsRunning M.KIND P.left P.ended shared.now result.0 result.1 }
     ensures total { P.total result.0.stream ≡ P.total producer.stream }
+    ensures totals { HasSameTotals consumer (to_come P.left producer consumer) result.1 (to_come P.left result.0 result.1) }
     ensures fewer { length result.1.full.pairs + length (P.left result.0.stream) < length consumer.full.pairs + length (P.left producer.stream) }
-    ensures room { result.1.full.room ≡ consumer.full.room }
 {
     let filled = producer.fill(gate, consumer.buffers + 1);
     let worked = work_buffer(shared, gate, consumer);
@@ -128,8 +131,8 @@ pub(crate) fn work_all<P: PairStream, M: CostModel, G: Gate>(
 ) -> (Producer<P>, Consumer<M>)
     requires { IsRunning M.KIND P.left P.ended shared.now producer consumer }
     ensures worked { HasEnded M.KIND shared.now result.1 }
+    ensures counted { HasCounted consumer (to_come P.left producer consumer) result.1 }
     ensures ended { IsTrue (P.ended result.0.stream) }
-    ensures room { result.1.full.room ≡ consumer.full.room }
     ensures total { P.total result.0.stream ≡ P.total producer.stream }
 {
     let mut producer = producer;

@@ -1,8 +1,10 @@
 //! What processes buffers.
-ghost use Rattle.std.specs.Prelude.{◌≡◌, ◌+◌, ◌<◌, length};
+ghost use Rattle.std.specs.Prelude.{◌≡◌, ◌+◌, ◌<◌, List, length};
+ghost use Rattle.dpe_base.specs.declared.pair.Pair.{Pair};
 ghost use Rattle.reorder_buffer.specs.Groups.{groups_below};
 ghost use Rattle.dpe_engine.specs.Working.{IsMemoOfQuery, IsReady, HasWorked};
-ghost use Rattle.dpe_engine.specs.Between.{IsAtGroup, IsSameBuffer, MayWorkBuffer, HasWorkedBuffer};
+ghost use Rattle.dpe_engine.specs.Between.{HasFreeCrew, IsAtGroup, MayWorkGroup, IsSameBuffer};
+ghost use Rattle.dpe_engine.specs.Running.{MayWorkBuffer, HasWorkedBuffer};
 
 use crate::gate::Gate;
 use crate::run::shared::Shared;
@@ -38,8 +40,9 @@ impl<M: CostModel> Consumer<M> {
         size: u32,
     )
         requires size { size < SIZES }
-        requires at { IsAtGroup M.KIND shared.now size self.old }
-        ensures at { IsAtGroup M.KIND shared.now (size + 1) self.new }
+        requires may { MayWorkGroup M.KIND shared.now size self.old }
+        ensures at { (later : List Pair) → IsAtGroup M.KIND shared.now size self.old later → IsAtGroup M.KIND shared.now (size + 1) self.new later }
+        ensures free { HasFreeCrew shared.now self.new }
         ensures counted { self.new.rounds + length (groups_below size self.old.full.pairs) ≡ self.old.rounds + length (groups_below (size + 1) self.old.full.pairs) }
         ensures same { IsSameBuffer self.old self.new }
     {

@@ -1,6 +1,6 @@
 //! From buffer to buffer: one is processed, and the next one filled.
 ghost use Rattle.std.specs.Prelude.{◌≡◌, ◌+◌, ◌<◌, IsTrue, length};
-ghost use Rattle.dpe_engine.specs.Between.{MayWorkBuffer, HasWorkedBuffer, IsFilled, IsRunning, HasEnded};
+ghost use Rattle.dpe_engine.specs.Running.{MayWorkBuffer, HasWorkedBuffer, IsFilled, IsRunning, HasCounted, HasSameTotals, HasEnded, to_come};
 
 use crate::gate::Gate;
 use crate::run::consumer::Consumer;
@@ -76,8 +76,8 @@ fn step<P: PairStream, M: CostModel, G: Gate, R: Threads + Sync>(
     requires full { length consumer.full.pairs ≡ consumer.full.room }
     ensures running { IsRunning M.KIND P.left P.ended shared.now result.0 result.1 }
     ensures total { P.total result.0.stream ≡ P.total producer.stream }
+    ensures totals { HasSameTotals consumer (to_come P.left producer consumer) result.1 (to_come P.left result.0 result.1) }
     ensures fewer { length result.1.full.pairs + length (P.left result.0.stream) < length consumer.full.pairs + length (P.left producer.stream) }
-    ensures room { result.1.full.room ≡ consumer.full.room }
 {
     let (producer, consumer) = fill_and_work(rt, shared, gate, producer, consumer);
     exchange(producer, consumer)
@@ -93,8 +93,8 @@ pub(crate) fn work_all<P: PairStream, M: CostModel, G: Gate, R: Threads + Sync>(
 ) -> (Producer<P>, Consumer<M>)
     requires { IsRunning M.KIND P.left P.ended shared.now producer consumer }
     ensures worked { HasEnded M.KIND shared.now result.1 }
+    ensures counted { HasCounted consumer (to_come P.left producer consumer) result.1 }
     ensures ended { IsTrue (P.ended result.0.stream) }
-    ensures room { result.1.full.room ≡ consumer.full.room }
     ensures total { P.total result.0.stream ≡ P.total producer.stream }
 {
     let mut producer = producer;

@@ -1,6 +1,6 @@
 //! What fills buffers.
 ghost use Rattle.std.specs.Prelude.{◌≡◌};
-ghost use Rattle.dpe_engine.specs.Between.{IsFilled};
+ghost use Rattle.dpe_engine.specs.Running.{IsFilled};
 
 use crate::gate::Gate;
 use pair_stream::PairStream;
@@ -25,7 +25,7 @@ impl<P: PairStream> Producer<P> {
         } = self;
         gate.filling(number);
         next.fill(&mut stream);
-        let _ = next.len();
+        let _recall = next.len();
         Producer { stream, next }
     }
 }

@@ -292,6 +292,49 @@ impl Gate for Meeting {
     }
 }
 
+// How often the draw that is watched looks for another one: some 50 ms. A thread has started long before.
+const LOOKS: u64 = 20_000_000;
+
+/// Whether another draw comes while the first one from a ticket on is held up.
+#[derive(Drop)]
+pub struct Watch {
+    first: u64,
+    draws: AtomicU64,
+    met: AtomicBool,
+}
+
+impl Watch {
+    /// From this ticket on.
+    pub fn from(first: u64) -> Watch {
+        Watch {
+            first,
+            draws: AtomicU64::new(0),
+            met: AtomicBool::new(false),
+        }
+    }
+
+    /// Whether a draw was held up, and none came meanwhile.
+    pub fn saw_one_thread(&self) -> bool {
+        self.draws.load(Ordering::SeqCst) > 0 && !self.met.load(Ordering::SeqCst)
+    }
+}
+
+impl Gate for Watch {
+    fn before(&self, _worker: u32, ticket: u64) {
+        if ticket < self.first || self.draws.fetch_add(1, Ordering::SeqCst) != 0 {
+            return;
+        }
+        'looks: for _ in 0..LOOKS {
+            if self.draws.load(Ordering::SeqCst) > 1 {
+                self.met.store(true, Ordering::SeqCst);
+                return;
+            }
+        }
+    }
+
+    fn filling(&self, _buffer: u64) {}
+}
+
 /// How often each ticket was drawn, how often each worker drew, how often each buffer was filled, and how many draws there
 /// were before it.
 #[derive(Drop)]

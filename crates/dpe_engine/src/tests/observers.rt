@@ -1,7 +1,9 @@
 //! What a gate sees of a run.
 ghost use Rattle.std.specs.Prelude.{◌≤◌};
 
-use super::fixtures::{Meeting, Shape, Tally, query_of_ones, solve_by_dpccp, solve_by_dpsize};
+use super::fixtures::{
+    Meeting, Shape, Tally, Watch, query_of_ones, solve_by_dpccp, solve_by_dpsize,
+};
 use crate::OpenGate;
 use dpe_base::{BUFFER_MAX, Pair, Query, WORKERS_MAX};
 use enum_dpsize::DpSize;
@@ -12,23 +14,58 @@ use std::alloc::Global;
 use std::test::Fail;
 use std::thread::Threads;
 
-// Whether all workers meet in the first group of a run over a clique of ten, which fills buffers of 1,000 pairs: the group
+// Whether all workers meet in the first group of a run over a clique of ten, which fills buffers of so many pairs: the group
 // has threads, small as it is.
-fn meets_at_first<R: Threads + Sync>(rt: &R, alloc: Global, workers: u32) -> Result<bool, Fail>
-    requires { (1 ≤ workers) × (workers ≤ WORKERS_MAX) }
+fn meets_at_first<R: Threads + Sync>(
+    rt: &R,
+    alloc: Global,
+    buffer: u32,
+    workers: u32,
+) -> Result<bool, Fail>
+    requires buffer { (1 ≤ buffer) × (buffer ≤ BUFFER_MAX) }
+    requires workers { (1 ≤ workers) × (workers ≤ WORKERS_MAX) }
 {
     let query = query_of_ones(alloc, Shape::Clique, 10)?;
     let gate = Meeting::of_workers(alloc, workers, 0)?;
-    let solved = solve_by_dpccp(rt, alloc, &query, 1_000, workers, &gate)?;
-    Ok(gate.took_place() && (solved.pairs, solved.buffers) == (28_501, 29))
+    let solved = solve_by_dpccp(rt, alloc, &query, buffer, workers, &gate)?;
+    Ok(gate.took_place() && solved.pairs == 28_501)
 }
 
 #[test]
 fn all_workers_meet_in_the_first_group(rt: HostRuntime) -> Result<(), Fail> {
-    assert!(rt; meets_at_first(&rt, rt.alloc(), 2)?);
-    assert!(rt; meets_at_first(&rt, rt.alloc(), 3)?);
-    assert!(rt; meets_at_first(&rt, rt.alloc(), 4)?);
-    assert!(rt; meets_at_first(&rt, rt.alloc(), WORKERS_MAX)?);
+    for workers in [2, 3, 4, WORKERS_MAX] {
+        assert!(rt; meets_at_first(&rt, rt.alloc(), 32, workers)?);
+        assert!(rt; meets_at_first(&rt, rt.alloc(), 4_096, workers)?);
+    }
+    Ok(())
+}
+
+// Whether the groups of a run over a clique of ten have no threads from this ticket on.
+fn has_one_thread<R: Threads + Sync>(
+    rt: &R,
+    alloc: Global,
+    buffer: u32,
+    workers: u32,
+    first: u64,
+) -> Result<bool, Fail>
+    requires buffer { (1 ≤ buffer) × (buffer ≤ BUFFER_MAX) }
+    requires workers { (1 ≤ workers) × (workers ≤ WORKERS_MAX) }
+{
+    let query = query_of_ones(alloc, Shape::Clique, 10)?;
+    let watch = Watch::from(first);
+    solve_by_dpccp(rt, alloc, &query, buffer, workers, &watch)?;
+    Ok(watch.saw_one_thread())
+}
+
+// The first group of a run has none where a buffer holds fewer than 32 pairs, or isn't filled; later groups of fewer than
+// 16,384 pairs have none: the tickets from 2,000 on are those of later buffers of 1,000 pairs.
+#[test]
+fn other_groups_have_no_threads(rt: HostRuntime) -> Result<(), Fail> {
+    for workers in [1, 2, 3, 4, WORKERS_MAX] {
+        assert!(rt; has_one_thread(&rt, rt.alloc(), 31, workers, 0)?);
+        assert!(rt; has_one_thread(&rt, rt.alloc(), BUFFER_MAX, workers, 0)?);
+        assert!(rt; has_one_thread(&rt, rt.alloc(), 1_000, workers, 2_000)?);
+    }
     Ok(())
 }
 

@@ -11,7 +11,7 @@ prepare-requires-clause-within g c κs p h = subst (λ (x : JoinGraph). Pairs x 
 
 pub returns : goal.returns
 returns g c =
-    let r = c.run-solved.ensures in
+    let r = c.run-solved.ensures.solved in
     let row = c.run-solved.result.0.words.row in
     let F : EnginePlan → Type 0 = λ e. AreLeastWords 0 e.query e.pairs row in
     let G : EnginePlan → Type 0 = λ e. length row ≡ 2 ^ relations e.query in

@@ -1,11 +1,13 @@
-use Rattle.std.proofs.Common.{◌≡◌, ◌+◌, length}
+use Rattle.std.proofs.Common.{◌≡◌, ◌+◌, List, length}
+use Rattle.dpe_base.specs.declared.pair.Pair.{Pair}
 use Rattle.reorder_buffer.specs.Groups.{groups_below}
-use Rattle.dpe_engine.specs.Between.{IsAtGroup, IsSameBuffer}
+use Rattle.dpe_engine.specs.Between.{IsAtBuffer, IsAtGroup, MayWorkGroup, IsSameBuffer}
 use Rattle.dpe_engine.proofs.run.alone.work_buffer.Given as goal
 
 abbrev pub invariant-sizes : goal.invariant-sizes
 invariant-sizes g l = record {
-  at : IsAtGroup g.M.CostModel.KIND l.shared l.size l.consumer;
+  may : MayWorkGroup g.M.CostModel.KIND l.shared l.size l.consumer;
+  reached : (later : List Pair) → IsAtBuffer g.M.CostModel.KIND l.shared l.fn.consumer later → IsAtGroup g.M.CostModel.KIND l.shared l.size l.consumer later;
   counted : l.consumer.rounds ≡ l.fn.consumer.rounds + length (groups_below l.size l.fn.consumer.full.pairs);
   same : IsSameBuffer l.fn.consumer l.consumer;
 }

@@ -1,21 +1,19 @@
-use Rattle.std.proofs.Common.{rules, arith, ◌+◌, ◌++◌, List, take, sym, ◌∙◌, subst}
+use Rattle.std.proofs.Common.{rules, arith, ◌+◌, ◌++◌, List, length, refl, sym, ◌∙◌, subst}
 use Rattle.std.proofs.lemmas.List.{take_at}
 use Rattle.dpe_base.specs.declared.pair.Pair.{Pair}
 use Rattle.memo_table.specs.Seats.{SeatView}
-use Rattle.dpe_engine.specs.Between.{below, IsBetween, StandNext}
+use Rattle.dpe_engine.specs.Between.{below, AreLeft, IsBetween, IsToCome}
 use Rattle.dpe_engine.specs.Rounds.{MayWorkRound, HaveWorked, HasWorkedRound}
 use Rattle.dpe_engine.proofs.Advances.{may_work_round, after_round, no_round, next_group}
 use Rattle.dpe_engine.proofs.Members.{counted_some, counted_none}
 use Rattle.dpe_engine.proofs.run.alone.work_group.Goals as goal
 
 pub returns-then-count-eq0-clause-at : goal.returns-then-count-eq0-clause-at
-returns-then-count-eq0-clause-at g c =
-    let r = c.requires.at in
+returns-then-count-eq0-clause-at g c = λ later at.
+    let self = c.args.consumer.now in
     record {
-      plan = r.plan;
-      next = r.next;
-      between = no_round _ _ _ c.args.size (take c.args.consumer.now.pairs c.args.shared.now.memo.pairs) c.args.consumer.now.full.pairs _ r.between (let e = c.count.ensures in let f = c.if-count-eq0.true in omega arith);
-      free = r.free;
+      left = at.left;
+      between = no_round _ _ c.args.size self.pairs _ self.full.pairs later _ c.requires.may.plan at.between (let e = c.count.ensures in let f = c.if-count-eq0.true in omega arith);
     }
 
 pub returns-then-count-eq0-clause-counted : goal.returns-then-count-eq0-clause-counted
@@ -23,16 +21,14 @@ returns-then-count-eq0-clause-counted g c = counted_none c.args.size c.args.cons
 
 pub open_round-base-requires-clause-may : goal.open_round-base-requires-clause-may
 open_round-base-requires-clause-may g c =
-    let r = c.requires.at in
+    let r = c.requires.may in
     let F : List Pair → Type 0 = λ l. MayWorkRound g.M.CostModel.KIND c.args.shared.now.memo c.args.shared.now.workers l c.args.consumer.now.seat in λ κs within.
-    subst F (sym c.group-group.ensures.group) (may_work_round _ _ _ _ r.next.rest _ _ _ r.plan r.next.is r.between)
+    subst F (sym c.group-group.ensures.group) (may_work_round _ _ c.args.size c.args.consumer.now.pairs _ _ c.args.consumer.now.full.pairs r.later _ r.plan r.at.left r.at.between refl)
 
 pub returns-clause-at : goal.returns-clause-at
-returns-clause-at g c =
-    let r = c.requires.at in
+returns-clause-at g c = λ later at.
     let model = g.M.CostModel.KIND in
     let shared = c.args.shared.now in
-    let list : List Pair = c.args.shared.now.memo.pairs in
     let self = c.args.consumer.now in
     let group = c.group-group.result.now in
     let base = c.open_round-base.result in
@@ -44,16 +40,12 @@ returns-clause-at g c =
     (subst G (sym (take_at c.work_crew.new.crew _ _ (changed.size ∙ c.as_mut_slice.ensures.len))) worked) in
     let H : List Pair → Type 0 = λ l. HasWorkedRound model shared.memo base shared.workers l self.seat c.close_round.new.seat in
     let counted = subst H c.group-group.ensures.group round in
-    let next = next_group _ _ _ c.args.size (take self.pairs list) self.full.pairs _ (after_round _ _ _ _ _ _ _ _ r.between counted (let e = c.count.ensures in let f = c.if-count-eq0.false in omega arith)) in
+    let next = next_group _ _ c.args.size self.pairs _ self.full.pairs later _
+    (after_round _ _ _ c.args.size _ _ self.full.pairs later _ _ at.between counted (let e = c.count.ensures in let f = c.if-count-eq0.false in omega arith)) in
     let stays = c.group-group.follows.holds-at-none in
-    let S : List Pair → Type 0 = StandNext list (take self.pairs list) in
-    let B : List Pair → Type 0 = λ l. IsBetween model shared (take self.pairs list ++ below (c.args.size + 1) l) (self.rounds + 1) c.close_round.new.seat in
-    record {
-      plan = r.plan;
-      next = subst S (sym stays.0) r.next;
-      between = subst B (sym stays.0) next;
-      free = search rules;
-    }
+    let S : List Pair → Type 0 = λ l. AreLeft shared self.pairs (l ++ later) in
+    let B : List Pair → Type 0 = λ l. IsBetween model shared (IsToCome (c.args.size + 1) l later) (self.pairs + length (below (c.args.size + 1) l)) (self.rounds + 1) c.close_round.new.seat in
+    record { left = subst S (sym stays.0) at.left; between = subst B (sym stays.0) next }
 
 pub returns-clause-counted : goal.returns-clause-counted
 returns-clause-counted g c = counted_some c.args.size c.args.consumer.now.rounds c.args.consumer.now.full.pairs (let e = c.count.ensures in let f = c.if-count-eq0.false in omega arith)
