@@ -1,1 +1,3 @@
 pub mod BestWords
+pub mod Listings
+pub mod CostLaws

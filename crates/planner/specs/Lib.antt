@@ -1,3 +1,5 @@
 pub mod Ranges
+pub mod Classes
 pub mod Enumerations
 pub mod Plans
+pub mod Costs

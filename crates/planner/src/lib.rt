@@ -10,11 +10,18 @@
 //! the tree from the words that the run leaves (`join_tree::build`).
 #![tactic(auto)]
 
+mod alone;
+mod costs;
+mod count;
+mod in_threads;
+mod job;
 mod options;
 mod planning;
 #[cfg(test)]
 mod tests;
 
+pub use costs::{CostedPlan, plan_with_costs};
 pub use dpe_engine::{Gate, OpenGate};
 pub use options::Options;
-pub use planning::{Planned, plan};
+pub use plan_space::Class;
+pub use planning::{Planned, plan, plan_alone};

@@ -1,3 +1,5 @@
+mod classes;
+
 use crate::{OpenGate, Options, Planned, plan};
 use cost_model::{Cout, Ops};
 use dpe_base::{BUFFER_MAX, Kind, Pred, Query, Rel, WORKERS_MAX};
@@ -6,6 +8,8 @@ use join_tree::Tree;
 use std::alloc::{AllocError, Global};
 use std::test::Fail;
 use std::thread::Threads;
+
+mod gates;
 
 #[test]
 fn plans_a_query_built_by_hand(rt: HostRuntime) -> Result<(), Fail> {
@@ -167,6 +171,7 @@ fn counts_are_those_of_what_is_asked_for(rt: HostRuntime) -> Result<(), Fail> {
             enumerator: *enumerator,
             buffer: *buffer,
             workers: *workers,
+            class: None,
         };
         let planned = plan(&rt, alloc, &query, Ops, &options, &OpenGate)?;
         assert_eq!(rt; counts(alloc, &planned)?.as_str(), *text, "{options:?}");
