@@ -22,7 +22,7 @@ use Rattle.query_json.specs.declared.refusal.QueryRefusal.TheVariants.{NoRelatio
 use Rattle.query_json.specs.declared.query.scope.Ends.{Ends}
 use Rattle.query_json.specs.Answer.{◌>>=◌}
 use Rattle.query_json.specs.Queries.Causes.{Cause, HasABadFilter, HasABadFraction, HasABadSelectivity, HasASelfJoin, HasAnAliasTwice, HasAnUnknownAlias, HasAnUnknownColumn, HasAnUnknownTable, HasNoRelations, HasTooManyRelations, IsDisconnected, IsFirstWith, Never, Refusing, has_unknown_column, has_unknown_end, is_among, is_bad, is_no_alias, is_of_no_table, is_self_join, lacks_column, or_empty, unknown_column, unknown_end, ◌otherwise◌}
-use Rattle.query_json.specs.Laws.{IsFirstRefused, TheFirstCauseDecides}
+use Rattle.query_json.specs.Laws.{IsFirstRefused}
 use Rattle.query_json.specs.Walk.Limits.{IsQueryWithin, IsTableWithin}
 use Rattle.query_json.specs.Names.{distinct_names}
 use Rattle.query_json.specs.Queries.{alias_at, aliases_of, all_of, apart, checked, count_named, count_of, each_of, ends_of, filter_of, found, fraction_at, most_distinct, named, named_of, or_alias_twice, or_disconnected, pred_of, query_of, rel_of, relation_number, selectivity_over, sized, table_named, table_of}
@@ -375,5 +375,6 @@ none_refuses : {A : Type 0} (r : Result A QueryRefusal) (cause : Cause) → IsEx
 none_refuses (Ok x) cause one = (λ h why c. not_both x why ((one why).1 c), λ never. (x, refl))
 none_refuses (Err z) cause one = (λ h why c. absurd cc, λ never. absurd (never z ((one z).0 refl)))
 
-pub first_cause : TheFirstCauseDecides
+pub first_cause : (tables : List Table) (q : QueryItem) → All IsTableWithin tables → IsQueryWithin q → ((why : QueryRefusal) → (named_of tables q ≡ Err why) ↔ Refusing tables q why)
+    × (((n : Named) × (named_of tables q ≡ Ok n)) ↔ Never (Refusing tables q))
 first_cause tables q within few = (refusing_exact tables q within few, none_refuses (named_of tables q) (Refusing tables q) (refusing_exact tables q within few))

@@ -4,7 +4,7 @@ use Rattle.query_json.specs.declared.file.QueryItem.{QueryItem}
 use Rattle.query_json.specs.declared.file.Table.{Table}
 use Rattle.query_json.specs.declared.refusal.QueryRefusal.{QueryRefusal}
 use Rattle.query_json.specs.Answer.{◌>>=◌}
-use Rattle.query_json.specs.Laws.{TheFirstPassDecides, done, passes}
+use Rattle.query_json.specs.Laws.{IsFirstRefused, done, passes}
 use Rattle.query_json.specs.Queries.{aliases_of, all_of, apart, checked, each_of, ends_of, most_distinct, pred_of, query_of, rel_of, sized, table_of}
 use Rattle.query_json.proofs.LeastPlaces.{err_same, least, rest_refused}
 
@@ -41,7 +41,8 @@ in_order tables q why =
     one_pass (all_of (rel_of tables) 0 q.relations) _ from_preds 6 why (λ rels g.
     one_pass (all_of (pred_of tables q.relations) 0 q.joins) _ [] 7 why (λ preds h. (λ i. not_both _ why i, λ i. not_both _ why i)))))))))
 
-pub first_pass : TheFirstPassDecides
+pub first_pass : (tables : List Table) (q : QueryItem) (why : QueryRefusal)
+    → (query_of tables q ≡ Err why) ↔ ((k : ℕ) × IsFirstRefused (λ at (pass : Result (Unit {0}) QueryRefusal). pass) (passes tables q) why k)
 first_pass tables q why =
     let order = in_order tables q why in
     let both = least pass (passes tables q) why in

@@ -1,9 +1,11 @@
 -- A pass refuses what its least refused member is refused for.
 use Rattle.std.proofs.Common.{◌≡◌, ◌↔◌, ◌∙◌, ℕ, suc, zero, ◌+◌, ◌<◌, List, [], ◌∷◌, Result, Ok, Err, Some, slice_get, refl, sym, ap, subst, arith}
 use Rattle.std.proofs.lemmas.Option.{same_Some}
+use Rattle.query_json.specs.declared.file.QueryItem.{QueryItem}
+use Rattle.query_json.specs.declared.file.Table.{Table}
 use Rattle.query_json.specs.declared.refusal.QueryRefusal.{QueryRefusal}
 use Rattle.query_json.specs.Answer.{◌>>=◌}
-use Rattle.query_json.specs.Laws.{IsFirstRefused, PassesRefuseTheLeastPlace}
+use Rattle.query_json.specs.Laws.{IsFirstRefused, RefusesTheLeastPlace}
 use Rattle.query_json.specs.Queries.{all_of, apart, checked, ends_of, most_distinct, pred_of, rel_of, table_of}
 
 -- the same of a pass that counts from a number
@@ -115,7 +117,7 @@ least_checked g xs why =
     let both = least (λ at. g) xs why in
     (λ e. both.0 (same.0 e), λ h. same.1 (both.1 h))
 
-pub least_places : PassesRefuseTheLeastPlace
+pub least_places : (tables : List Table) (q : QueryItem) (why : QueryRefusal) → RefusesTheLeastPlace tables q why
 least_places tables q why =
     record {
       known_tables = least (λ at. table_of tables) q.relations why;

@@ -1,5 +1,6 @@
 pub mod Binds
 pub mod Finds
+pub mod DecimalLaws
 pub mod FirstCauses
 pub mod FirstFaults
 pub mod FirstPasses
@@ -12,6 +13,7 @@ pub mod NameLaws
 pub mod NumberLaws
 pub mod Passes
 pub mod QueryLaws
+pub mod ReadBack
 pub mod Repeats
 pub mod ScopeLaws
 pub mod SoundEntries

@@ -2,13 +2,14 @@
 use Rattle.std.proofs.Common.{◌≡◌, ◌↔◌, ◌∙◌, ℕ, suc, zero, ◌<◌, List, [], ◌∷◌, ◌++◌, true, false, map, take, Result, Ok, Err, Some, slice_get, refl, sym, ap, arith, append_assoc, append-nil, inl, inr}
 use Rattle.std.proofs.lemmas.Bool.{cases_Bool}
 use Rattle.std.proofs.lemmas.Option.{same_Some}
+use Rattle.query_json.specs.declared.file.RelationItem.{RelationItem}
+use Rattle.query_json.specs.declared.file.Table.{Table}
 use Rattle.query_json.specs.declared.fault.FileFault.TheVariants.{DuplicateTable}
 use Rattle.query_json.specs.declared.refusal.QueryRefusal.TheVariants.{DuplicateAlias}
-use Rattle.query_json.specs.Entries.{or_table_twice}
+use Rattle.query_json.specs.Entries.{or_table_twice, table_names}
 use Rattle.query_json.specs.Queries.Causes.{IsFirstRepeat, is_among}
-use Rattle.query_json.specs.Laws.{DuplicateAliasesByPlace, DuplicateTablesByPlace}
 use Rattle.query_json.specs.Names.{distinct_after, distinct_names}
-use Rattle.query_json.specs.Queries.{or_alias_twice}
+use Rattle.query_json.specs.Queries.{aliases_of, or_alias_twice}
 
 -- the same after the names that were met
 record IsFirstAfter (met names : List (List ℕ)) (name : List ℕ) (k : ℕ) : Type 0 where
@@ -88,12 +89,12 @@ alias_twice : (r : Result (List (List ℕ)) (List ℕ)) (name : List ℕ) → or
 alias_twice (Ok x) name e = absurd cc
 alias_twice (Err x) name e = let same : x ≡ name = cc in ap Err same
 
-pub tables_by_place : DuplicateTablesByPlace
+pub tables_by_place : (tables : List Table) (name : List ℕ) → (table_names tables ≡ Err (DuplicateTable name)) ↔ ((k : ℕ) × IsFirstRepeat (map (λ t. t.name) tables) name k)
 tables_by_place tables name =
     let both = by_place (λ t. t.name) tables name in
     (λ e. both.0 (table_twice (distinct_names (λ t. t.name) tables) name e), λ f. ap or_table_twice (both.1 f))
 
-pub aliases_by_place : DuplicateAliasesByPlace
+pub aliases_by_place : (relations : List RelationItem) (name : List ℕ) → (aliases_of relations ≡ Err (DuplicateAlias name)) ↔ ((k : ℕ) × IsFirstRepeat (map (λ r. r.alias) relations) name k)
 aliases_by_place relations name =
     let both = by_place (λ r. r.alias) relations name in
     (λ e. both.0 (alias_twice (distinct_names (λ r. r.alias) relations) name e), λ f. ap or_alias_twice (both.1 f))

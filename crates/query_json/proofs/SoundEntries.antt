@@ -3,19 +3,19 @@ use Rattle.std.proofs.Common.{◌≡◌, ◌∙◌, ℕ, refl, sym, subst, List,
 use Rattle.std.specs.Prelude.{All}
 use Rattle.std.proofs.lemmas.List.{length-map}
 use Rattle.std.proofs.lemmas.List.Elements.{All-head, All-tail, All-cons, All-nil}
+use Rattle.serde_json.specs.Data.{Data}
 use Rattle.query_json.specs.declared.entry.Entry.{Entry}
 use Rattle.query_json.specs.declared.entry.Named.{Named}
-use Rattle.query_json.specs.declared.file.File.{File}
 use Rattle.query_json.specs.declared.file.QueryItem.{QueryItem}
 use Rattle.query_json.specs.declared.file.RelationItem.{RelationItem}
 use Rattle.query_json.specs.declared.file.Table.{Table}
 use Rattle.query_json.specs.declared.refusal.QueryRefusal.{QueryRefusal}
-use Rattle.query_json.specs.Entries.{counted, entries_of, entry_of, part_of, table_names, tables_of}
+use Rattle.query_json.specs.Entries.{counted, entries_of_value, entry_of, part_of, table_names, tables_of}
 use Rattle.query_json.specs.Walk.Limits.{IsFileWithin, IsQueryWithin, IsTableWithin}
 use Rattle.query_json.specs.Queries.{named, named_of, or_disconnected, query_of}
 use Rattle.query_json.specs.Sound.{IsEntrySound, IsPartSound, IsSound}
 use Rattle.query_json.specs.Queries.Unreached.{first_unreached}
-use Rattle.query_json.specs.Walk.{file_of, json_at}
+use Rattle.query_json.specs.Walk.{file_at}
 use Rattle.query_json.proofs.Binds.{bind_ok, ok_same}
 use Rattle.query_json.proofs.QueryLaws.{query_valid}
 use Rattle.query_json.proofs.UnreachedLaws.{first_unreached_is}
@@ -53,23 +53,17 @@ sound_items tables (x ∷ xs) within few =
     All-cons IsEntrySound (entry_of tables x) (map (entry_of tables) xs)
     (sound_entry tables x within (All-head IsQueryWithin x xs few)) (sound_items tables xs within (All-tail IsQueryWithin x xs few))
 
-file_within : (bytes : List ℕ) (f : File) → file_of bytes ≡ Ok f → IsFileWithin f
-unfolding file_of
-file_within bytes f e =
-    let d = bind_ok (json_at bytes) _ f e in
-    given_within d.0 (Ok f) d.2
-
 same_tables : (found tables : List Table) → tables_of found ≡ Ok tables → found ≡ tables
 same_tables found tables e =
     let names = bind_ok (table_names found) _ tables e in
     ok_same found tables names.2
 
-pub sound_entries : (bytes : List ℕ) (entries : List Entry) → entries_of bytes ≡ Ok entries → All IsEntrySound entries
-unfolding entries_of
-sound_entries bytes entries e =
-    let file = bind_ok (file_of bytes) _ entries e in
+pub sound_entries : (d : Data) (entries : List Entry) → entries_of_value d ≡ Ok entries → All IsEntrySound entries
+unfolding entries_of_value
+sound_entries d entries e =
+    let file = bind_ok (file_at d) _ entries e in
     let size = bind_ok (counted file.0) _ entries file.2 in
     let tables = bind_ok (tables_of file.0.tables) _ entries size.2 in
-    let within : IsFileWithin file.0 = file_within bytes file.0 file.1 in
+    let within : IsFileWithin file.0 = given_within d (Ok file.0) file.1 in
     let all : All IsTableWithin tables.0 = subst (All IsTableWithin) (same_tables file.0.tables tables.0 tables.1) within.tables in
     subst (All IsEntrySound) (ok_same (map (entry_of tables.0) file.0.queries) entries tables.2) (sound_items tables.0 file.0.queries all within.queries)

@@ -1,5 +1,5 @@
 -- A relation that no walk reaches is parted from the first by a set that no predicate leads out of.
-use Rattle.std.proofs.Common.{◌≡◌, ◌≢◌, ◌∙◌, ℕ, zero, suc, ◌+◌, ◌^◌, ◌<◌, ◌≤◌, Bool, true, false, ◌==◌, ◌&&◌, inl, inr, List, [], ◌∷◌, length, get_or, zero-add, Some, None, slice_get, arith, refl, sym, ap, subst}
+use Rattle.std.proofs.Common.{◌≡◌, ◌↔◌, ◌≢◌, ◌∙◌, ℕ, zero, suc, ◌+◌, ◌^◌, ◌<◌, ◌≤◌, Bool, true, false, ◌==◌, ◌&&◌, inl, inr, List, [], ◌∷◌, length, get_or, zero-add, Some, None, slice_get, arith, refl, sym, ap, subst}
 use Rattle.std.specs.Prelude.{Any, find, position}
 use Rattle.std.specs.List.{list_all, range_with_len, position_or_len}
 use Rattle.std.proofs.lemmas.Bool.{cases_Bool, cases_eq, cases_lt, and_parts, eqb-true, eq-eqb, lt-ltb}
@@ -19,7 +19,6 @@ use Rattle.join_graph.specs.Laws.{Ends}
 use Rattle.join_graph.proofs.Crossings.{edge_iff}
 use Rattle.join_graph.proofs.Edges.{graph_is}
 use Rattle.join_graph.proofs.GraphLaws.{crossed_back}
-use Rattle.query_json.specs.Laws.{FirstUnreachedByWalks}
 use Rattle.query_json.specs.Queries.Unreached.{is_closed, parts_from, is_unreached, first_unreached}
 
 -- ---- walks stay in a set that no predicate leads out of
@@ -336,7 +335,8 @@ all_connected q ok all =
     zero_right a b u out = grind (arith, sets, member-same u 0, ok.some)
 
 -- none is unreached exactly where the graph is connected, and else the first is the least that no walk reaches
-pub first_unreached_is : FirstUnreachedByWalks
+pub first_unreached_is : (q : JoinQuery) → IsQuery q → ((first_unreached q ≡ None) ↔ Connected (graph_of q) (full (relations q)))
+    × ((r : ℕ) → (first_unreached q ≡ Some r) ↔ IsFirstUnreached (graph_of q) r)
 unfolding first_unreached
 first_unreached_is q ok = (
   (

@@ -13,6 +13,7 @@ use Rattle.query_json.specs.declared.file.Table.{Table}
 use Rattle.query_json.specs.declared.file.JoinItem.{JoinItem}
 use Rattle.query_json.specs.declared.file.QueryItem.{QueryItem}
 use Rattle.query_json.specs.declared.file.File.{File}
+use Rattle.query_json.specs.declared.file.Version.{Version}
 use Rattle.query_json.specs.declared.fault.FileFault.{FileFault}
 use Rattle.query_json.specs.declared.place.Site.TheVariants as site
 use Rattle.query_json.specs.declared.place.Place.{Place}
@@ -87,22 +88,22 @@ given_length : {X : Type 0} (f : ℕ → Data → Result X FileFault) (limit : �
 given_length f limit p m None xs w e = omega (arith, ap length (sym (ok_same [] xs e)))
 given_length f limit p m (Some ds) xs w e = omega (arith, each_length f 0 ds xs e, list_within limit p m ds w)
 
-joins_within : (i : ℕ) (m : Option Data) (js : List JoinItem) → joins_at i m ≡ Ok js → length js ≤ PREDS_MAX
+joins_within : (version : Version) (i : ℕ) (m : Option Data) (js : List JoinItem) → joins_at version i m ≡ Ok js → length js ≤ PREDS_MAX
 unfolding joins_at
-joins_within i m js e =
+joins_within version i m js e =
     let found = bind_ok (optional (as_list PREDS_MAX) (place site.Joins i 0) m) _ js e in
-    given_length (join_at i) PREDS_MAX (place site.Joins i 0) (present m) found.0 js found.1 found.2
+    given_length (join_at version i) PREDS_MAX (place site.Joins i 0) (present m) found.0 js found.1 found.2
 
-query_within : (outer i : ℕ) (d : Data) (q : QueryItem) → query_at outer i d ≡ Ok q → IsQueryWithin q
+query_within : (version : Version) (outer i : ℕ) (d : Data) (q : QueryItem) → query_at version outer i d ≡ Ok q → IsQueryWithin q
 unfolding query_at
-query_within outer i d q e =
+query_within version outer i d q e =
     let a = bind_ok (object_at (place site.QueryItem i 0) d) _ q e in
     let name = bind_ok (required as_name (place site.QueryName i 0) (get (codes "name") d)) _ q a.2 in
     let list = bind_ok (required as_array (place site.Relations i 0) (get (codes "relations") d)) _ q name.2 in
-    let relations = bind_ok (each (relation_at i) 0 list.0) _ q list.2 in
-    let joins = bind_ok (joins_at i (get (codes "joins") d)) _ q relations.2 in
+    let relations = bind_ok (each (relation_at version i) 0 list.0) _ q list.2 in
+    let joins = bind_ok (joins_at version i (get (codes "joins") d)) _ q relations.2 in
     let made : QueryItem = record { name = name.0; relations = relations.0; joins = joins.0 } in
-    subst IsQueryWithin (ok_same made q joins.2) (joins_within i (get (codes "joins") d) joins.0 joins.1)
+    subst IsQueryWithin (ok_same made q joins.2) (joins_within version i (get (codes "joins") d) joins.0 joins.1)
 
 value_within : (d : Data) (f : File) → file_at d ≡ Ok f → IsFileWithin f
 unfolding file_at
@@ -112,11 +113,11 @@ value_within d f e =
     let table_list = bind_ok (required as_array (place site.Tables 0 0) (get (codes "tables") d)) _ f version.2 in
     let tables = bind_ok (each (table_at 0) 0 table_list.0) _ f table_list.2 in
     let query_list = bind_ok (required as_array (place site.Queries 0 0) (get (codes "queries") d)) _ f tables.2 in
-    let queries = bind_ok (each (query_at 0) 0 query_list.0) _ f query_list.2 in
+    let queries = bind_ok (each (query_at version.0 0) 0 query_list.0) _ f query_list.2 in
     let made : File = record { tables = tables.0; queries = queries.0 } in
     subst IsFileWithin (ok_same made f queries.2) (record {
       tables = each_all IsTableWithin (table_at 0) (table_within 0) 0 table_list.0 tables.0 tables.1;
-      queries = each_all IsQueryWithin (query_at 0) (query_within 0) 0 query_list.0 queries.0 queries.1;
+      queries = each_all IsQueryWithin (query_at version.0 0) (query_within version.0 0) 0 query_list.0 queries.0 queries.1;
     })
 
 pub given_within : (d : Data) (r : Result File FileFault) → Gives r (file_at d) → IfOk r IsFileWithin

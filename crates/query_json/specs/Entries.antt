@@ -1,5 +1,6 @@
--- What the bytes of a workload file hold: entries, each accepted or refused, or the first fault.
+-- What a workload file holds: entries, each accepted or refused, or the first fault.
 use Rattle.std.specs.Prelude.{ℕ, List, length, map, nat_lt, if◌then◌else◌, Result, Ok, Err}
+use Rattle.serde_json.specs.Data.{Data}
 use Rattle.query_json.specs.declared.TheConstants.{TABLES_MAX, QUERIES_MAX}
 use Rattle.query_json.specs.declared.fault.FileFault.{FileFault}
 use Rattle.query_json.specs.declared.fault.FileFault.TheVariants.{TooManyTables, TooManyQueries, DuplicateTable}
@@ -14,7 +15,7 @@ use Rattle.query_json.specs.declared.entry.Entry.{Entry}
 use Rattle.query_json.specs.Answer.{◌>>=◌}
 use Rattle.query_json.specs.Names.{distinct_names}
 use Rattle.query_json.specs.Queries.{named_of}
-use Rattle.query_json.specs.Walk.{file_of}
+use Rattle.query_json.specs.Walk.{file_at, json_at}
 
 abbrev pub counted : File → Result (Unit {0}) FileFault
 counted f = if nat_lt TABLES_MAX (length f.tables) then Err TooManyTables else (if nat_lt QUERIES_MAX (length f.queries) then Err TooManyQueries else Ok tt)
@@ -37,10 +38,16 @@ part_of (Err refusal) = Refused refusal
 unfoldable pub entry_of : List Table → QueryItem → Entry
 entry_of tables q = record { name = q.name; part = part_of (named_of tables q) }
 
--- the entries of a file, or the first fault other than want of memory
-unfoldable pub entries_of : List ℕ → Result (List Entry) FileFault
-entries_of bytes = do
-  file ← file_of bytes
+-- the entries of a value, or its first fault
+unfoldable pub entries_of_value : Data → Result (List Entry) FileFault
+entries_of_value d = do
+  file ← file_at d
   size ← counted file
   tables ← tables_of file.tables
   Ok (map (entry_of tables) file.queries)
+
+-- the entries of a file's bytes, or the first fault other than want of memory
+unfoldable pub entries_of : List ℕ → Result (List Entry) FileFault
+entries_of bytes = do
+  d ← json_at bytes
+  entries_of_value d

@@ -1,5 +1,6 @@
 pub mod Answer
 pub mod Columns
+pub mod Decimals
 pub mod Entries
 pub mod Laws
 pub mod Names

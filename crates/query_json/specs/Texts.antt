@@ -1,5 +1,6 @@
 -- Places and refusals as they are printed.
 use Rattle.std.specs.Prelude.{ℕ, List, [], ◌++◌, codes, decimal}
+use Rattle.dpe_base.specs.declared.TheConstants.{N_MAX}
 use Rattle.query_json.specs.declared.place.Site.TheVariants as site
 use Rattle.query_json.specs.declared.place.Place.{Place}
 use Rattle.query_json.specs.declared.place.Site.{Site}
@@ -55,7 +56,7 @@ frac_place_text (frac.Join j) = codes "join " ++ decimal j
 -- a refusal in words
 unfoldable pub refusal_text : QueryRefusal → List ℕ
 refusal_text NoRelations = codes "no relations"
-refusal_text (TooManyRelations n) = decimal n ++ codes " relations, at most 20"
+refusal_text (TooManyRelations n) = decimal n ++ (codes " relations, at most " ++ decimal N_MAX)
 refusal_text (DuplicateAlias a) = codes "alias " ++ (a ++ codes " twice")
 refusal_text (UnknownTable t) = codes "unknown table " ++ t
 refusal_text (UnknownAlias a) = codes "unknown alias " ++ a

@@ -17,12 +17,15 @@ use Rattle.query_json.specs.declared.file.Table.{Table}
 use Rattle.query_json.specs.declared.file.Column.{Column}
 use Rattle.query_json.specs.declared.file.File.{File}
 use Rattle.query_json.specs.declared.file.Ratio.{Ratio}
+use Rattle.query_json.specs.declared.file.Version.{Version}
+use Rattle.query_json.specs.declared.file.Version.TheVariants.{One, Two}
 use Rattle.query_json.specs.declared.file.RelationItem.{RelationItem}
 use Rattle.query_json.specs.declared.file.JoinItem.{JoinItem}
 use Rattle.query_json.specs.declared.file.QueryItem.{QueryItem}
 use Rattle.std.specs.Str.{is_utf8}
 use Rattle.serde_json.specs.Read.{read}
 use Rattle.query_json.specs.Answer.{◌>>=◌}
+use Rattle.query_json.specs.Decimals.{decimal_of}
 
 abbrev pub place : Site → ℕ → ℕ → Place
 place s i j = record { site = s; i = i; j = j }
@@ -89,11 +92,19 @@ each_given f (Some ds) = each f 0 ds
 
 -- ---- the sites
 
-abbrev pub as_version : Data → Option ℕ
-as_version d = option_and_then (λ n. if n == 1 then Some n else None) (option_and_then as_u64 (as_number d))
+abbrev pub version_numbered : ℕ → Option Version
+version_numbered n = if n == 1 then Some One else (if n == 2 then Some Two else None)
 
-abbrev pub version_at : Option Data → Result (Option ℕ) FileFault
-version_at member = optional as_version (place site.Version 0 0) member
+abbrev pub as_version : Data → Option Version
+as_version d = option_and_then version_numbered (option_and_then as_u64 (as_number d))
+
+-- a file that names no version is one of the first
+abbrev pub or_first : Option Version → Version
+or_first None = One
+or_first (Some version) = version
+
+abbrev pub version_at : Option Data → Result Version FileFault
+version_at member = optional as_version (place site.Version 0 0) member >>= λ named. Ok (or_first named)
 
 unfoldable pub column_at : ℕ → ℕ → Data → Result Column FileFault
 column_at i j d = do
@@ -122,47 +133,58 @@ as_pair (item a no_items) = None
 as_pair (item a (item b no_items)) = option_and_then (λ n. option_map (λ d. record { num = n; den = d }) (option_and_then as_u64 (as_number b))) (option_and_then as_u64 (as_number a))
 as_pair (item a (item b (item c ds))) = None
 
-abbrev pub as_ratio : Data → Option Ratio
-as_ratio d = option_and_then as_pair (as_array d)
+-- a decimal text, which the first version doesn't have
+abbrev pub as_decimal : Version → Data → Option Ratio
+as_decimal One d = None
+as_decimal Two d = option_and_then decimal_of (as_str d)
 
-unfoldable pub relation_at : ℕ → ℕ → Data → Result RelationItem FileFault
-relation_at i j d = do
+abbrev pub ratio_by : Version → Data → Option Items → Option Ratio
+ratio_by version d None = as_decimal version d
+ratio_by version d (Some ds) = as_pair ds
+
+-- a fraction: an array of its two numbers, or a decimal text
+abbrev pub as_ratio : Version → Data → Option Ratio
+as_ratio version d = ratio_by version d (as_array d)
+
+unfoldable pub relation_at : Version → ℕ → ℕ → Data → Result RelationItem FileFault
+relation_at version i j d = do
   fields ← object_at (place site.Relation i j) d
   alias ← required as_name (place site.Alias i j) (get (codes "alias") d)
   table ← required as_name (place site.TableRef i j) (get (codes "table") d)
-  filter ← optional as_ratio (place site.Filter i j) (get (codes "filter") d)
+  filter ← optional (as_ratio version) (place site.Filter i j) (get (codes "filter") d)
   Ok (record { alias = alias; table = table; filter = filter })
 
 -- it may be absent where both columns are there
-unfoldable pub selectivity_at : Place → Bool → Option Data → Result (Option Ratio) FileFault
-selectivity_at p columns member = do
-  found ← optional as_ratio p member
+unfoldable pub selectivity_at : Version → Place → Bool → Option Data → Result (Option Ratio) FileFault
+selectivity_at version p columns member = do
+  found ← optional (as_ratio version) p member
   if columns || is_some found then Ok found else Err (Shape p)
 
-unfoldable pub join_at : ℕ → ℕ → Data → Result JoinItem FileFault
-join_at i j d = do
+unfoldable pub join_at : Version → ℕ → ℕ → Data → Result JoinItem FileFault
+join_at version i j d = do
   fields ← object_at (place site.JoinItem i j) d
   left ← required as_name (place site.Left i j) (get (codes "left") d)
   right ← required as_name (place site.Right i j) (get (codes "right") d)
   left_column ← optional as_name (place site.LeftColumn i j) (get (codes "left_column") d)
   right_column ← optional as_name (place site.RightColumn i j) (get (codes "right_column") d)
-  selectivity ← selectivity_at (place site.Selectivity i j) (is_some left_column && is_some right_column) (get (codes "selectivity") d)
+  selectivity ← selectivity_at version (place site.Selectivity i j) (is_some left_column && is_some right_column) (get (codes "selectivity") d)
   Ok (record { left = left; right = right; left_column = left_column; right_column = right_column; selectivity = selectivity })
 
-unfoldable pub joins_at : ℕ → Option Data → Result (List JoinItem) FileFault
-joins_at i member = do
+unfoldable pub joins_at : Version → ℕ → Option Data → Result (List JoinItem) FileFault
+joins_at version i member = do
   found ← optional (as_list PREDS_MAX) (place site.Joins i 0) member
-  each_given (join_at i) found
+  each_given (join_at version i) found
 
-unfoldable pub query_at : ℕ → ℕ → Data → Result QueryItem FileFault
-query_at outer i d = do
+unfoldable pub query_at : Version → ℕ → ℕ → Data → Result QueryItem FileFault
+query_at version outer i d = do
   fields ← object_at (place site.QueryItem i 0) d
   name ← required as_name (place site.QueryName i 0) (get (codes "name") d)
   list ← required as_array (place site.Relations i 0) (get (codes "relations") d)
-  relations ← each (relation_at i) 0 list
-  joins ← joins_at i (get (codes "joins") d)
+  relations ← each (relation_at version i) 0 list
+  joins ← joins_at version i (get (codes "joins") d)
   Ok (record { name = name; relations = relations; joins = joins })
 
+-- what a value says
 unfoldable pub file_at : Data → Result File FileFault
 file_at d = do
   fields ← object_at (place site.Root 0 0) d
@@ -170,7 +192,7 @@ file_at d = do
   table_list ← required as_array (place site.Tables 0 0) (get (codes "tables") d)
   tables ← each (table_at 0) 0 table_list
   query_list ← required as_array (place site.Queries 0 0) (get (codes "queries") d)
-  queries ← each (query_at 0) 0 query_list
+  queries ← each (query_at version 0) 0 query_list
   Ok (record { tables = tables; queries = queries })
 
 -- what serde_json reads, where the bytes are UTF-8
@@ -183,9 +205,3 @@ or_not_json (Some d) = Ok d
 
 unfoldable pub json_at : List ℕ → Result Data FileFault
 json_at bytes = or_not_json (json_of bytes)
-
--- what the bytes of a file say
-unfoldable pub file_of : List ℕ → Result File FileFault
-file_of bytes = do
-  d ← json_at bytes
-  file_at d

@@ -22,6 +22,15 @@ pub struct Table<'a> {
     pub columns: Items<Column<'a>>,
 }
 
+/// The version of the format that a file is in.
+#[derive(Clone, Copy, Debug, PartialEq, Eq)]
+pub enum Version {
+    /// The first one, also of a file that names none: a fraction is an array.
+    One,
+    /// A fraction may also be a decimal text.
+    Two,
+}
+
 /// Two whole numbers, not yet looked at.
 #[derive(Clone, Copy, Debug, PartialEq, Eq)]
 pub struct Ratio {

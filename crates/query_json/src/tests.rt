@@ -4,6 +4,8 @@ mod faults;
 mod limits;
 mod places;
 mod refusals;
+mod values;
+mod versions;
 
 use super::*;
 use std::alloc::{AllocError, Global};
@@ -64,17 +66,22 @@ fn write_fault(out: &mut String, fault: &FileFault) -> Result<(), AllocError> {
     }
 }
 
-// The fault of the bytes, or a line for each entry.
-fn outcome(alloc: Global, bytes: &[u8]) -> Result<String, AllocError> {
-    let mut out = String::new(alloc);
-    match read(alloc, bytes) {
+// The fault, or a line for each entry.
+fn write_outcome(out: &mut String, read: Result<Workload, FileFault>) -> Result<(), AllocError> {
+    match read {
         Ok(workload) => {
             for i in 0..workload.len() {
-                write_entry(&mut out, workload.entry(i))?;
+                write_entry(out, workload.entry(i))?;
             }
+            Ok(())
         }
-        Err(fault) => write_fault(&mut out, &fault)?,
+        Err(fault) => write_fault(out, &fault),
     }
+}
+
+fn outcome(alloc: Global, bytes: &[u8]) -> Result<String, AllocError> {
+    let mut out = String::new(alloc);
+    write_outcome(&mut out, read(alloc, bytes))?;
     Ok(out)
 }
 

@@ -82,9 +82,6 @@ fn write_frac_place(out: &mut String, before: &str, place: FracPlace) -> Result<
     }
 }
 
-// The text of a refusal has the number itself.
-const _: () = prove!(N_MAX == 20);
-
 /// Writes a refusal in words, at the end of `out`.
 ///
 /// Fails where there is no memory. What `out` then holds is left open.
@@ -94,7 +91,7 @@ pub fn write_refusal(out: &mut String, refusal: &QueryRefusal) -> Result<(), All
 {
     match refusal {
         QueryRefusal::NoRelations => write!(out, "no relations"),
-        QueryRefusal::TooManyRelations(n) => write!(out, "{n} relations, at most 20"),
+        QueryRefusal::TooManyRelations(n) => write!(out, "{n} relations, at most {N_MAX}"),
         QueryRefusal::DuplicateAlias(alias) => write_around(out, "alias ", alias, " twice"),
         QueryRefusal::UnknownTable(table) => write_name(out, "unknown table ", table),
         QueryRefusal::UnknownAlias(alias) => write_name(out, "unknown alias ", alias),

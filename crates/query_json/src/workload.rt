@@ -1,7 +1,8 @@
 //! Reading a workload.
 ghost use Rattle.std.specs.Prelude.{◌≡◌, ◌<◌, length, Some, slice_get};
+ghost use Rattle.serde_json.specs.View.{view};
 ghost use Rattle.query_json.specs.Answer.{Gives};
-ghost use Rattle.query_json.specs.Entries.{counted, entries_of};
+ghost use Rattle.query_json.specs.Entries.{counted, entries_of, entries_of_value};
 ghost use Rattle.query_json.specs.Sound.{IsEntrySound};
 
 use crate::entry::Entry;
@@ -10,9 +11,12 @@ use crate::file::File;
 use crate::items::Items;
 use crate::query::entries::entries_of;
 use crate::tables::Tables;
-use crate::walk::file_of;
+use crate::walk::file_at;
+use crate::walk::node::Node;
+use crate::walk::tree::tree_of;
 use crate::{QUERIES_MAX, TABLES_MAX};
 use json::Scratch;
+use serde_json::Value;
 use std::alloc::Global;
 use std::marker::Model;
 
@@ -64,6 +68,17 @@ fn count(file: &File) -> Result<(), FileFault>
     Ok(())
 }
 
+#[tactic(auto, unfolding(crate::specs::Entries::entries_of_value))]
+fn workload_of<N: Node>(alloc: Global, root: &N) -> Result<Workload, FileFault>
+    ensures { Gives result (entries_of_value (N.as_data root.now)) }
+{
+    let file = file_at(alloc, root)?;
+    count(&file)?;
+    let tables = Tables::new(alloc, file.tables.as_slice())?;
+    let entries = entries_of(alloc, &tables, file.queries.as_slice())?;
+    Ok(Workload { entries })
+}
+
 /// Reads the text of a workload file: one entry for each of its queries, in order.
 ///
 /// Fails with the first fault of the text, in this order: it is not JSON, a place breaks the format, there are too many
@@ -73,9 +88,16 @@ pub fn read(alloc: Global, bytes: &[u8]) -> Result<Workload, FileFault>
     ensures { Gives result (entries_of bytes.now) }
 {
     let mut scratch = Scratch::new(alloc);
-    let file = file_of(alloc, bytes, &mut scratch)?;
-    count(&file)?;
-    let tables = Tables::new(alloc, file.tables.as_slice())?;
-    let entries = entries_of(alloc, &tables, file.queries.as_slice())?;
-    Ok(Workload { entries })
+    let root = tree_of(alloc, bytes, &mut scratch)?;
+    workload_of(alloc, &root)
+}
+
+/// Reads a workload that is there as a value already: what [`read`] gives for a text of this value.
+///
+/// Fails with the first fault of the value, in the order of [`read`], and never as not JSON. Fails also where there is no
+/// memory.
+pub fn read_value(alloc: Global, value: &Value) -> Result<Workload, FileFault>
+    ensures { Gives result (entries_of_value (view value.now)) }
+{
+    workload_of(alloc, value)
 }

@@ -7,7 +7,8 @@ use Rattle.serde_json.specs.Find.{get, as_array, as_object}
 use Rattle.query_json.specs.declared.place.Site.{Site}
 use Rattle.query_json.specs.declared.place.Site.TheVariants as site
 use Rattle.query_json.specs.declared.place.Place.{Place}
-use Rattle.query_json.specs.Walk.{as_list, as_name, as_ratio, as_version, as_whole, place, present}
+use Rattle.query_json.specs.declared.file.Version.{Version}
+use Rattle.query_json.specs.Walk.{as_list, as_name, as_ratio, as_version, as_whole, or_first, place, present}
 
 -- ---- what fits
 
@@ -25,35 +26,39 @@ is_there member = is_some (present member)
 abbrev pub may_be : {X : Type 0} → (Data → Option X) → Option Data → Bool
 may_be f member = not (is_there member) || is_some (option_and_then f (present member))
 
--- the site of an object, of which o is the object itself, or of a member of o
-abbrev pub fits : Site → Data → Bool
-fits site.Root o = is_object o
-fits site.Version o = may_be as_version (get (codes "version") o)
-fits site.Tables o = must_be as_array (get (codes "tables") o)
-fits site.Table o = is_object o
-fits site.TableName o = must_be as_name (get (codes "name") o)
-fits site.TableRows o = must_be (as_whole INPUT_CAP) (get (codes "rows") o)
-fits site.Columns o = may_be (as_list COLUMNS_MAX) (get (codes "columns") o)
-fits site.Column o = is_object o
-fits site.ColumnName o = must_be as_name (get (codes "name") o)
-fits site.Distinct o = must_be (as_whole INPUT_CAP) (get (codes "distinct") o)
-fits site.Queries o = must_be as_array (get (codes "queries") o)
-fits site.QueryItem o = is_object o
-fits site.QueryName o = must_be as_name (get (codes "name") o)
-fits site.Relations o = must_be as_array (get (codes "relations") o)
-fits site.Relation o = is_object o
-fits site.Alias o = must_be as_name (get (codes "alias") o)
-fits site.TableRef o = must_be as_name (get (codes "table") o)
-fits site.Filter o = may_be as_ratio (get (codes "filter") o)
-fits site.Joins o = may_be (as_list PREDS_MAX) (get (codes "joins") o)
-fits site.JoinItem o = is_object o
-fits site.Left o = must_be as_name (get (codes "left") o)
-fits site.Right o = must_be as_name (get (codes "right") o)
-fits site.LeftColumn o = may_be as_name (get (codes "left_column") o)
-fits site.RightColumn o = may_be as_name (get (codes "right_column") o)
-fits site.Selectivity o =
-    may_be as_ratio (get (codes "selectivity") o)
+-- in a file of a version, the site of an object, of which o is the object itself, or of a member of o
+abbrev pub fits : Version → Site → Data → Bool
+fits version site.Root o = is_object o
+fits version site.Version o = may_be as_version (get (codes "version") o)
+fits version site.Tables o = must_be as_array (get (codes "tables") o)
+fits version site.Table o = is_object o
+fits version site.TableName o = must_be as_name (get (codes "name") o)
+fits version site.TableRows o = must_be (as_whole INPUT_CAP) (get (codes "rows") o)
+fits version site.Columns o = may_be (as_list COLUMNS_MAX) (get (codes "columns") o)
+fits version site.Column o = is_object o
+fits version site.ColumnName o = must_be as_name (get (codes "name") o)
+fits version site.Distinct o = must_be (as_whole INPUT_CAP) (get (codes "distinct") o)
+fits version site.Queries o = must_be as_array (get (codes "queries") o)
+fits version site.QueryItem o = is_object o
+fits version site.QueryName o = must_be as_name (get (codes "name") o)
+fits version site.Relations o = must_be as_array (get (codes "relations") o)
+fits version site.Relation o = is_object o
+fits version site.Alias o = must_be as_name (get (codes "alias") o)
+fits version site.TableRef o = must_be as_name (get (codes "table") o)
+fits version site.Filter o = may_be (as_ratio version) (get (codes "filter") o)
+fits version site.Joins o = may_be (as_list PREDS_MAX) (get (codes "joins") o)
+fits version site.JoinItem o = is_object o
+fits version site.Left o = must_be as_name (get (codes "left") o)
+fits version site.Right o = must_be as_name (get (codes "right") o)
+fits version site.LeftColumn o = may_be as_name (get (codes "left_column") o)
+fits version site.RightColumn o = may_be as_name (get (codes "right_column") o)
+fits version site.Selectivity o =
+    may_be (as_ratio version) (get (codes "selectivity") o)
     && ((is_there (get (codes "left_column") o) && is_there (get (codes "right_column") o)) || is_there (get (codes "selectivity") o))
+
+-- the version that a file names: the first where it names none
+abbrev pub version_of : Data → Version
+version_of o = or_first (option_and_then as_version (present (get (codes "version") o)))
 
 -- ---- the order of the walk
 
@@ -65,8 +70,8 @@ pub record Visit : Type 0 where
 abbrev pub visit : Site → ℕ → ℕ → Data → Visit
 visit s i j o = record { place = place s i j; object = o }
 
-abbrev pub keeps_format : Visit → Bool
-keeps_format v = fits v.place.site v.object
+abbrev pub keeps_format : Version → Visit → Bool
+keeps_format version v = fits version v.place.site v.object
 
 abbrev pub or_no_items : Option Items → Items
 or_no_items None = no_items
@@ -113,9 +118,9 @@ visits o =
 -- ---- the first fault
 
 -- the place, at number k, breaks the format, and none before it does
-pub record IsFirstBroken (walk : List Visit) (p : Place) (k : ℕ) : Type 0 where
-  pub here : (v : Visit) × (slice_get walk k ≡ Some v) × (v.place ≡ p) × (keeps_format v ≡ false)
-  pub first : (i : ℕ) (v : Visit) → i < k → slice_get walk i ≡ Some v → keeps_format v ≡ true
+pub record IsFirstBroken (version : Version) (walk : List Visit) (p : Place) (k : ℕ) : Type 0 where
+  pub here : (v : Visit) × (slice_get walk k ≡ Some v) × (v.place ≡ p) × (keeps_format version v ≡ false)
+  pub first : (i : ℕ) (v : Visit) → i < k → slice_get walk i ≡ Some v → keeps_format version v ≡ true
 
-abbrev pub AllKeepFormat : List Visit → Type 0
-AllKeepFormat walk = (i : ℕ) (v : Visit) → slice_get walk i ≡ Some v → keeps_format v ≡ true
+abbrev pub AllKeepFormat : Version → List Visit → Type 0
+AllKeepFormat version walk = (i : ℕ) (v : Visit) → slice_get walk i ≡ Some v → keeps_format version v ≡ true

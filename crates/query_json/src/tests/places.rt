@@ -26,7 +26,7 @@ fn each_site_has_its_place(rt: HostRuntime) -> Result<(), Fail> {
         (file, "[]", "$"),
         (
             file,
-            r#"{"version":2,"tables":[],"queries":[]}"#,
+            r#"{"version":3,"tables":[],"queries":[]}"#,
             "$.version",
         ),
         (

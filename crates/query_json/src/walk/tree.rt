@@ -3,14 +3,13 @@ ghost use Rattle.std.specs.Prelude.{◌≡◌, IfOk, option_map, option_and_then
 ghost use Rattle.json.specs.Json.{if_last, value};
 ghost use Rattle.json.specs.Lex.{tokens};
 ghost use Rattle.json.specs.Value.{value_view, items_view, members_view};
-ghost use Rattle.serde_json.specs.Find.{get, as_number, as_u64, as_array};
 ghost use Rattle.serde_json.specs.Read.{max_depth, read};
 ghost use Rattle.query_json.specs.Answer.{GivesBy};
-ghost use Rattle.query_json.specs.Walk.Tree.{items_fit, members_fit, numbers_fit, seen, seen_items};
+ghost use Rattle.query_json.specs.Walk.Tree.{items_fit, members_fit, numbers_fit, seen};
 ghost use Rattle.query_json.specs.Walk.{json_at, or_not_json};
 
 use crate::fault::FileFault;
-use crate::walk::number::{fits, whole};
+use crate::walk::number::fits;
 use json::{Error, Reader, Scratch, Value};
 use std::alloc::{AllocError, Global};
 
@@ -103,32 +102,5 @@ pub fn tree_of<'a>(
     match simdutf8::compat::from_utf8(bytes) {
         Ok(text) => tree_in(alloc, text, scratch),
         Err(_) => Err(FileFault::NotJson),
-    }
-}
-
-/// The last member of a name, where the value is an object.
-pub fn member<'v, 'a>(value: &'v Value<'a>, name: &str) -> Option<&'v Value<'a>>
-    ensures { option_map (λ v. seen v.now) result ≡ get name.now (seen value.now) }
-{
-    value.get(name)
-}
-
-/// The value of a whole number from 0 below 2^64, which has no point and no exponent.
-pub fn whole_number(value: &Value) -> Option<u64>
-    ensures { result ≡ option_and_then as_u64 (as_number (seen value.now)) }
-{
-    match value {
-        Value::Number(text) => whole(*text),
-        _ => None,
-    }
-}
-
-/// The items of an array.
-pub fn items_of<'v, 'a>(value: &'v Value<'a>) -> Option<&'v [Value<'a>]>
-    ensures { option_map (λ vs. seen_items vs.now) result ≡ as_array (seen value.now) }
-{
-    match value {
-        Value::Array(items) => Some(items.as_slice()),
-        _ => None,
     }
 }
