@@ -4,10 +4,7 @@ use Rattle.std.proofs.Math.Dec.{eqb}
 use Rattle.std.proofs.Math.Nat.{max-le}
 use Rattle.std.proofs.lemmas.Bool.{le-ltb}
 use Rattle.std.proofs.lemmas.Bool.Decides.{nat_tests}
-use Rattle.std.proofs.lemmas.Str.{is_utf8-from_IsUtf8}
-use Rattle.std.specs.Prelude.{IsUtf8}
 use Rattle.serde_json.specs.Data.{Data, depth, items_depth}
-use Rattle.serde_json.specs.Read.{max_depth, read}
 use Rattle.dpe_base.specs.declared.TheConstants.{N_MAX}
 use Rattle.dpe_base.specs.Queries.{JoinQuery}
 use Rattle.std.proofs.lemmas.List.Elements.{All-cons, All-nil}
@@ -16,21 +13,24 @@ use Rattle.query_json.specs.declared.TheConstants.{QUERIES_MAX, TABLES_MAX}
 use Rattle.query_json.specs.declared.file.File.{File}
 use Rattle.query_json.specs.declared.entry.Named.{Named}
 use Rattle.query_json.specs.declared.file.RelationItem.{RelationItem}
-use Rattle.query_json.specs.Entries.{counted, entries_of, entry_of}
+use Rattle.query_json.specs.Entries.{counted, entries_of, entries_of_value, entry_of}
 use Rattle.query_json.specs.Queries.{apart, checked, ends_of, most_distinct, named_of, pred_of, query_of, rel_of, sized, table_of}
 use Rattle.query_json.specs.Queries.Unreached.{first_unreached}
-use Rattle.query_json.specs.Walk.{file_of, json_at}
+use Rattle.query_json.specs.Walk.{file_at, json_at, json_of}
 use Rattle.workload_gen.specs.declared.sample.Table.{Table}
 use Rattle.workload_gen.specs.declared.sample.Relation.{Relation}
 use Rattle.workload_gen.specs.declared.sample.Join.{Join}
-use Rattle.workload_gen.specs.Accepted.{EverySampleHoldsEightQueries, HoldsEightQueries, IsAccepted}
+use Rattle.workload_gen.specs.Accepted.{HoldsEightQueries, IsAccepted}
 use Rattle.workload_gen.specs.Draws.{sample_of, seeded}
 use Rattle.workload_gen.specs.Sample.{Sample, SampleQuery}
-use Rattle.workload_gen.specs.Values.{alias, join_value, join_value_by, query_value, relation_value, table_name, table_value, values, workload_value}
+use Rattle.workload_gen.specs.Values.{alias, join_value, join_value_by, query_value, relation_value, table_name, table_value, values, workload_of, workload_value}
 use Rattle.workload_gen.proofs.Accepted.{Both, all_numbered, alias_naming, apart_by, both_length, checked_numbered, distinct_by, each_numbered, ends_by, pred_by, rel_ok, table_naming, table_of_ok}
 use Rattle.workload_gen.proofs.Connected.{IsPredOf, all_reached}
 use Rattle.workload_gen.proofs.FileOf.{file_item, file_read, join_item, numbered, query_item, relation_item, table_item}
 use Rattle.workload_gen.proofs.Found.{distinct}
+use Rattle.serde_json.specs.Written.{compact_text}
+use Rattle.query_json.proofs.ReadBack.{json_of-compact_text}
+use Rattle.workload_gen.proofs.ReadBack.{workload_back}
 use Rattle.workload_gen.proofs.Valid.{Each, IsJoin, IsQuery, IsRelation, IsSample, IsTable, sample_is}
 
 numbered_length : {A B : Type 0} (f : ℕ → A → B) (at : ℕ) (xs : List A) → length (numbered f at xs) ≡ length xs
@@ -82,9 +82,10 @@ queries_ok tables eight each at (q ∷ qs) h =
 few_parts : (file : File) → length file.tables ≤ 8 → length file.queries ≤ 8 → counted file ≡ Ok tt
 few_parts file t q = rw (le-ltb TABLES_MAX (length file.tables) (omega arith), le-ltb QUERIES_MAX (length file.queries) (omega arith)) refl
 
-file_ok : (sample : Sample) → IsSample sample → (bytes : List ℕ) → file_of bytes ≡ Ok (file_item sample) → HoldsEightQueries (entries_of bytes)
-unfolding entries_of
-file_ok sample h bytes found =
+value_ok : (sample : Sample) → IsSample sample → HoldsEightQueries (entries_of_value (workload_value sample))
+unfolding entries_of_value
+value_ok sample h =
+    let found : file_at (workload_value sample) ≡ Ok (file_item sample) = file_read sample h in
     let few : counted (file_item sample) ≡ Ok tt = few_parts (file_item sample)
     (omega (arith, numbered_length table_item 0 sample.tables, h.eight_tables)) (omega (arith, numbered_length query_item 0 sample.queries, h.eight_queries)) in
     let names = distinct 8 table_name (λ t. t.name) table_item table_naming sample.tables (omega (arith, h.eight_tables)) in
@@ -128,19 +129,18 @@ workload_depth sample =
     let tables = shallow table_value 3 table_depth 0 sample.tables in
     omega arith
 
-bytes_ok : (sample : Sample) → IsSample sample → (bytes : List ℕ) → IsUtf8 bytes → read bytes ≡ Some (workload_value sample) → HoldsEightQueries (entries_of bytes)
-unfolding file_of json_at
-bytes_ok sample h bytes text reads = file_ok sample h bytes (rw (is_utf8-from_IsUtf8 bytes text, reads, file_read sample h) refl)
+-- the sample of each number is read from its text
+pub every_sample : (number : ℕ) → HoldsEightQueries (entries_of (workload_of number))
+unfolding entries_of json_at sample_of workload_of
+every_sample number =
+    let sample = sample_of number in
+    let valid : IsSample sample = sample_is (seeded number) in
+    let reads : json_of (compact_text (workload_value sample)) ≡ Some (workload_value sample) =
+    json_of-compact_text (workload_value sample) (workload_back sample valid) (let deep = workload_depth sample in omega arith) in
+    rw reads (value_ok sample valid)
 
--- what the writer of a sample's value says of its text
-pub accepted : {E : Type 0} (number : ℕ) (d : Data) (r : Result (Vec ℕ Global) E) → d ≡ workload_value (sample_of number)
-    → IfOk r (λ b. IsUtf8 b.items) → IfOk r (λ b. depth d ≤ max_depth → read b.items ≡ Some d) → IfOk r (λ b. HoldsEightQueries (entries_of b.items))
-unfolding sample_of
-accepted number d (Ok b) is text reads =
-    let few : depth d ≤ max_depth = (let deep = workload_depth (sample_of number) in omega (arith, ap depth is)) in
-    bytes_ok (sample_of number) (sample_is (seeded number)) b.items text (reads few ∙ ap Some is)
-accepted number d (Err e) is text reads = tt
-
-pub every_sample : EverySampleHoldsEightQueries
-unfolding sample_of
-every_sample number bytes text reads = bytes_ok (sample_of number) (sample_is (seeded number)) bytes text reads
+-- so is the sample that is written
+pub accepted : {E : Type 0} (number : ℕ) (r : Result (Vec ℕ Global) E) → IfOk r (λ b. b.items ≡ workload_of number)
+    → IfOk r (λ b. HoldsEightQueries (entries_of b.items))
+accepted number (Ok b) text = subst (λ bytes. HoldsEightQueries (entries_of bytes)) (sym text) (every_sample number)
+accepted number (Err e) text = tt

@@ -11,6 +11,7 @@ use Rattle.query_json.specs.declared.file.RelationItem.{RelationItem}
 use Rattle.query_json.specs.declared.file.JoinItem.{JoinItem}
 use Rattle.query_json.specs.declared.file.QueryItem.{QueryItem}
 use Rattle.query_json.specs.declared.file.File.{File}
+use Rattle.query_json.specs.declared.file.Version.TheVariants.{One}
 use Rattle.query_json.specs.declared.fault.FileFault.{FileFault}
 use Rattle.query_json.specs.declared.place.Site.TheVariants as site
 use Rattle.query_json.specs.declared.place.Place.{Place}
@@ -92,13 +93,13 @@ table_read outer t table named h =
     ) refl
 
 relation_read : (i j : ℕ) (relation : Relation) → is_name (alias j) ≡ true → is_name (table_name relation.table) ≡ true
-    → relation_at i j (relation_value j relation) ≡ Ok (relation_item j relation)
+    → relation_at One i j (relation_value j relation) ≡ Ok (relation_item j relation)
 unfolding relation_at relation_value
 relation_read i j relation named known =
     rw (name_ok (place site.Alias i j) (alias j) named, name_ok (place site.TableRef i j) (table_name relation.table) known) refl
 
 join_read_by : (i k left right : ℕ) (one_in : Option ℕ) → is_name (alias left) ≡ true → is_name (alias right) ≡ true
-    → join_at i k (join_value_by left right one_in) ≡ Ok (join_item_by left right one_in)
+    → join_at One i k (join_value_by left right one_in) ≡ Ok (join_item_by left right one_in)
 unfolding join_at selectivity_at
 join_read_by i k left right None l r =
     rw (name_ok (place site.Left i k) (alias left) l, name_ok (place site.Right i k) (alias right) r) refl
@@ -108,7 +109,7 @@ join_read_by i k left right (Some d) l r =
 -- ---- lists
 
 -- a fact that holds of each part holds of it with its number, which is below n
-numbered_below : {A : Type 0} (P : A → Type 0) (n at : ℕ) (xs : List A) → at + length xs ≤ n → Each P xs → EachFrom (λ k x. (k < n) × P x) at xs
+pub numbered_below : {A : Type 0} (P : A → Type 0) (n at : ℕ) (xs : List A) → at + length xs ≤ n → Each P xs → EachFrom (λ k x. (k < n) × P x) at xs
 numbered_below P n at [] fits h = tt
 numbered_below P n at (x ∷ xs) fits h = ((omega arith, h.0), numbered_below P n (at + 1) xs (omega arith) h.1)
 
@@ -128,20 +129,20 @@ tables_read outer tables few h = each_read (table_at outer) table_value table_it
     (λ t table is. table_read outer t table (table_named t is.0) is.1) 0 tables (numbered_below IsTable 8 0 tables (omega arith) h)
 
 relations_read : (i : ℕ) (relations : List Relation) → length relations ≤ 12 → Each IsRelation relations
-    → each (relation_at i) 0 (values relation_value 0 relations) ≡ Ok (numbered relation_item 0 relations)
-relations_read i relations few h = each_read (relation_at i) relation_value relation_item (λ j relation. (j < 12) × IsRelation relation)
+    → each (relation_at One i) 0 (values relation_value 0 relations) ≡ Ok (numbered relation_item 0 relations)
+relations_read i relations few h = each_read (relation_at One i) relation_value relation_item (λ j relation. (j < 12) × IsRelation relation)
     (λ j relation is. relation_read i j relation (alias_named j is.0) (table_named relation.table is.1.table)) 0 relations (numbered_below IsRelation 12 0 relations (omega arith) h)
 
-join_read : (i k n : ℕ) (join : Join) → n ≤ 12 → IsJoin n join → join_at i k (join_value k join) ≡ Ok (join_item k join)
+join_read : (i k n : ℕ) (join : Join) → n ≤ 12 → IsJoin n join → join_at One i k (join_value k join) ≡ Ok (join_item k join)
 unfolding join_value
 join_read i k n join few h = join_read_by i k join.left join.right join.one_in (alias_named join.left (omega (arith, h.left))) (alias_named join.right (omega (arith, h.right)))
 
 joins_read : (i n : ℕ) (joins : List Join) → n ≤ 12 → length joins ≤ 14 → Each (IsJoin n) joins
-    → each (join_at i) 0 (values join_value 0 joins) ≡ Ok (numbered join_item 0 joins)
-joins_read i n joins few short h = each_read (join_at i) join_value join_item (λ k join. (k < 14) × IsJoin n join)
+    → each (join_at One i) 0 (values join_value 0 joins) ≡ Ok (numbered join_item 0 joins)
+joins_read i n joins few short h = each_read (join_at One i) join_value join_item (λ k join. (k < 14) × IsJoin n join)
     (λ k join is. join_read i k n join few is.1) 0 joins (numbered_below (IsJoin n) 14 0 joins (omega arith) h)
 
-query_read : (outer j : ℕ) (query : SampleQuery) → is_name (query_name j) ≡ true → IsQuery query → query_at outer j (query_value j query) ≡ Ok (query_item j query)
+query_read : (outer j : ℕ) (query : SampleQuery) → is_name (query_name j) ≡ true → IsQuery query → query_at One outer j (query_value j query) ≡ Ok (query_item j query)
 unfolding query_at joins_at query_value
 query_read outer j query named h =
     let few : nat_le (item_count (values join_value 0 query.joins)) PREDS_MAX ≡ true = le-leb _ PREDS_MAX (omega (arith, item_count-values join_value 0 query.joins, h.few_joins)) in
@@ -157,7 +158,7 @@ query_read outer j query named h =
 pub file_read : (sample : Sample) → IsSample sample → file_at (workload_value sample) ≡ Ok (file_item sample)
 unfolding file_at workload_value
 file_read sample h =
-    let queries : each (query_at 0) 0 (values query_value 0 sample.queries) ≡ Ok (numbered query_item 0 sample.queries) =
-    each_read (query_at 0) query_value query_item (λ j query. (j < 8) × IsQuery query)
+    let queries : each (query_at One 0) 0 (values query_value 0 sample.queries) ≡ Ok (numbered query_item 0 sample.queries) =
+    each_read (query_at One 0) query_value query_item (λ j query. (j < 8) × IsQuery query)
     (λ j query is. query_read 0 j query (query_named j is.0) is.1) 0 sample.queries (numbered_below IsQuery 8 0 sample.queries (omega (arith, h.eight_queries)) h.queries) in
     rw (tables_read 0 sample.tables (omega (arith, h.eight_tables)) h.tables, queries) refl

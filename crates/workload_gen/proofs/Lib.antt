@@ -7,4 +7,5 @@ pub mod Found
 pub mod Lists
 pub mod Names
 pub mod Plain
+pub mod ReadBack
 pub mod Valid

@@ -1,7 +1,10 @@
 //! A law on every sample.
-ghost use Rattle.workload_gen.specs.Accepted.{EverySampleHoldsEightQueries};
+ghost use Rattle.std.specs.Prelude.{ℕ};
+ghost use Rattle.query_json.specs.Entries.{entries_of};
+ghost use Rattle.workload_gen.specs.Accepted.{HoldsEightQueries};
+ghost use Rattle.workload_gen.specs.Values.{workload_of};
 
-/// Whatever the number, each text that reads as its sample has no fault, and holds eight queries of which none is refused.
+/// Whatever the number, its sample has no fault, and holds eight queries of which none is refused.
 pub fn every_sample_holds_eight_queries()
-    ensures { EverySampleHoldsEightQueries }
+    ensures { (number : ℕ) → HoldsEightQueries (entries_of (workload_of number)) }
 {}

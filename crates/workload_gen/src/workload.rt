@@ -25,15 +25,21 @@ fn workload(alloc: Global, number: u64) -> Result<Value, AllocError>
     json!(in alloc; {"tables": tables, "queries": queries})
 }
 
+#[tactic(auto, using(crate::proofs::Plain::workload_is_plain), unfolding(crate::specs::Values::workload_of))]
+fn text_of(alloc: Global, number: u64) -> Result<Vec<u8>, AllocError>
+    ensures { IfOk result (λ bytes. bytes.items ≡ workload_of number) }
+{
+    workload(alloc, number)?.to_vec(alloc)
+}
+
 /// The bytes of the sample workload of a number: compact JSON, without a newline.
 ///
 /// Fails where there is no memory.
-#[tactic(auto, using(crate::proofs::Plain::workload_is_plain), unfolding(crate::specs::Values::workload_of))]
 pub fn generate(alloc: Global, number: u64) -> Result<Vec<u8>, AllocError>
     ensures text { IfOk result (λ bytes. bytes.items ≡ workload_of number) }
 
-    // The reader of workload files finds no fault in them and refuses none of their eight queries.
+    // Their reader finds no fault and refuses none of the eight queries.
     ensures accepted { IfOk result (λ bytes. HoldsEightQueries (entries_of bytes.items)) }
 {
-    workload(alloc, number)?.to_vec(alloc)
+    text_of(alloc, number)
 }
