@@ -1,0 +1,11 @@
+pub mod Again
+pub mod Alike
+pub mod ChangeLaws
+pub mod Decimals
+pub mod Depths
+pub mod Fields
+pub mod Floats
+pub mod Items
+pub mod NamedMembers
+pub mod Powers
+pub mod RewrittenFiles

@@ -1,0 +1,5 @@
+pub mod Changes
+pub mod Forms
+pub mod Fractions
+pub mod Laws
+pub mod Rewriting
