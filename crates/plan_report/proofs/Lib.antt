@@ -1,4 +1,9 @@
+pub mod CertItems
+pub mod CertMembers
+pub mod CertPlain
+pub mod CertPlans
+pub mod CertTexts
 pub mod Heights
+pub mod Holdings
 pub mod Measures
 pub mod Plain
-pub mod Holdings

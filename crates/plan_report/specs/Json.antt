@@ -40,7 +40,7 @@ plan_data kind q aliases t = tree_data kind aliases (measured kind q t)
 
 abbrev pub stats_data : Stats → Data
 stats_data s =
-    object (member (codes "buffer") (whole s.buffer) (member (codes "buffers") (whole s.buffers) (member (codes "enumerator") (string (enumerator_name s.kind))
+    object (member (codes "buffer") (whole s.buffer) (member (codes "buffers") (whole s.buffers) (member (codes "enumerator") (string (enumerator_name s.enumerator))
     (member (codes "probes") (whole s.probes) (member (codes "rounds") (whole s.rounds) no_members)))))
 
 abbrev pub stats_member : Option Stats → Members

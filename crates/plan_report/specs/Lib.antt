@@ -1,3 +1,4 @@
+pub mod Certs
 pub mod Entries
 pub mod Json
 pub mod Measures

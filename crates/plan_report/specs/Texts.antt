@@ -34,7 +34,7 @@ join_line operator rows cost = operator ++ (codes " rows " ++ (decimal rows ++ (
 abbrev pub stats_line : Stats → List ℕ
 stats_line s =
     codes "stats "
-    ++ (enumerator_name s.kind ++ (codes " buffer " ++ (decimal s.buffer ++ (codes " buffers " ++ (decimal s.buffers
+    ++ (enumerator_name s.enumerator ++ (codes " buffer " ++ (decimal s.buffer ++ (codes " buffers " ++ (decimal s.buffers
     ++ (codes " rounds " ++ (decimal s.rounds ++ (codes " probes " ++ (decimal s.probes ++ newline)))))))))
 
 -- each node on a line of its own, before its sides, the left one first

@@ -4,7 +4,7 @@ use dpe_base::Kind;
 #[derive(Clone, Copy, Debug, PartialEq, Eq)]
 pub struct Stats {
     /// The enumerator that gave the pairs.
-    pub kind: Kind,
+    pub enumerator: Kind,
     /// How many pairs a buffer takes.
     pub buffer: u32,
     /// How many buffers were filled.

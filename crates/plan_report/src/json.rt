@@ -65,7 +65,7 @@ pub fn plan_value<M: CostModel>(
 fn stats_value(alloc: Global, stats: Stats) -> Result<Value, AllocError>
     ensures { IfOk result (λ v. view v ≡ stats_data stats) }
 {
-    let enumerator = enumerator_name(stats.kind);
+    let enumerator = enumerator_name(stats.enumerator);
     let Stats {
         buffer,
         buffers,

@@ -6,6 +6,7 @@
 //! report of a list of entries is. An entry is added whole or not at all: where memory runs out, the report stays as it was.
 #![tactic(auto)]
 
+mod certs;
 mod entry;
 mod json;
 mod measured;
@@ -13,6 +14,10 @@ mod names;
 mod report;
 mod text;
 
+pub use certs::cert::{Cert, Certs};
+pub use certs::fault::CertFault;
+pub use certs::read::{CERTIFIED_MAX, read_certs};
+pub use certs::write::write_certs;
 pub use entry::Stats;
 pub use join_tree::build;
 pub use names::enumerator_name;

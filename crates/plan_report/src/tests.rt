@@ -1,6 +1,8 @@
 ghost use Rattle.std.specs.Prelude.{◌≡◌, ◌<◌, length, IfOk, OnOk};
 ghost use Rattle.plan_report.specs.Reports.{format_of};
 
+mod certs;
+
 use super::*;
 use cost_model::{CostModel, Cout, LEAF, Ops};
 use dpe_base::{EMPTY, Kind, Name, Pred, Query, Rel, RelSet, SPAN};
@@ -102,7 +104,7 @@ fn report_of(rt: &impl Abort, alloc: Global, format: Format) -> Result<Report, F
     let pair = chain(alloc, &[100, 1000], 1000)?;
     let tree = joined(alloc, Tree::Leaf(0), Tree::Leaf(1))?;
     let stats = Stats {
-        kind: Kind::DpSva,
+        enumerator: Kind::DpSva,
         buffer: 4096,
         buffers: 1,
         rounds: 2,
@@ -179,7 +181,7 @@ fn the_plan_of_one_relation_is_its_scan(rt: HostRuntime) -> Result<(), Fail> {
     )?;
     let mut report = Report::new(alloc, Format::Text);
     let stats = Stats {
-        kind: Kind::DpCcp,
+        enumerator: Kind::DpCcp,
         buffer: 4096,
         buffers: 0,
         rounds: 0,

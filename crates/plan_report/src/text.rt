@@ -84,7 +84,7 @@ pub fn write_stats(out: &mut String, stats: Option<Stats>) -> Result<(), AllocEr
     let Some(stats) = stats else {
         return Ok(());
     };
-    let enumerator = enumerator_name(stats.kind);
+    let enumerator = enumerator_name(stats.enumerator);
     let Stats {
         buffer,
         buffers,
