@@ -1,6 +1,11 @@
+pub mod Certifying
+pub mod Checking
+pub mod Confirming
 pub mod Plans
+pub mod SoundFiles
 pub mod Reporting
 pub mod Sums
 pub mod OneSample
 pub mod OneReport
-pub mod Modes
+pub mod NamedModes
+pub mod AtOnce

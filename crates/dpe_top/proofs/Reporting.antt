@@ -10,7 +10,7 @@ use Rattle.plan_report.specs.Entries.{ReportEntry}
 use Rattle.plan_report.specs.Reports.{Appends, Holds, format_of}
 use Rattle.plan_report.proofs.Holdings.{holds_more}
 use Rattle.dpe_words.specs.declared.choices.Settings.{Settings}
-use Rattle.dpe_top.specs.Reports.{IsEntrySaid, Says, is_refused, has_refused}
+use Rattle.dpe_top.specs.Modes.Report.{IsEntrySaid, Says, is_refused, has_refused}
 
 -- the report says this of the first i entries
 pub record HasSaid (settings : Settings) (entries : List Entry) (i : ℕ) (report : Report) : Type 0 where

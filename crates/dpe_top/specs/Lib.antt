@@ -1,9 +1,10 @@
+pub mod Answers
+pub mod Classes
 pub mod Statistics
+pub mod Batches
 pub mod Totals
-pub mod Summary
-pub mod Reports
+pub mod Modes
 pub mod Lines
 pub mod Statuses
 pub mod Reply
 pub mod Replies
-pub mod Laws

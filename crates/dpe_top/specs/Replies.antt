@@ -1,8 +1,6 @@
--- An answer in memory is the answer to the words and the bytes.
-use Rattle.std.specs.Prelude.{◌≡◌}
+-- A reply in memory is an answer.
 use Rattle.dpe_top.specs.declared.reply.Reply.{Reply}
-use Rattle.dpe_top.specs.Reply.{Answer, IsText, outcome_of}
+use Rattle.dpe_top.specs.Answers.{Answer}
 
-pub record Replies (said : Answer) (reply : Reply) : Type 0 where
-  pub outcome : reply.outcome ≡ outcome_of said
-  pub text : IsText said reply.text.items
+abbrev pub Replies : Answer → Reply → Type 0
+Replies answer reply = answer reply.outcome reply.text.items

@@ -1,8 +1,8 @@
 -- Sums that grow query by query.
 use Rattle.std.specs.Prelude.{ℕ, ◌+◌, ◌≤◌, length}
 use Rattle.dpe_base.specs.Queries.{JoinQuery, relations}
-use Rattle.dpe_top.specs.declared.summary.Share.{Share}
-use Rattle.dpe_top.specs.declared.summary.Totals.{Totals}
+use Rattle.dpe_top.specs.declared.modes.sample.Share.{Share}
+use Rattle.dpe_top.specs.declared.modes.sample.Totals.{Totals}
 
 -- the sums with one query more
 abbrev pub with_query : Totals → JoinQuery → Share → Totals

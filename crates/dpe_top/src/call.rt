@@ -2,67 +2,62 @@
 ghost use Rattle.std.specs.Prelude.{◌≡◌, ◌+◌, ◌<◌, ◌≤◌, ◌⊎◌, ℕ, List, false, length, take, Err, IfOk, IfErr, IfSome};
 ghost use Rattle.std.specs.Io.KnownBytes.{Appends, Keeps};
 ghost use Rattle.io_edge.specs.Causes.{Rose};
-ghost use Rattle.dpe_words.specs.Line.{AreInRange, IsLine, texts_of};
+ghost use Rattle.dpe_words.specs.Line.{IsLine, texts_of};
 ghost use Rattle.dpe_words.specs.Usage.{usage_line};
 ghost use Rattle.dpe_top.specs.declared.status.Status.{Status};
 ghost use Rattle.dpe_top.specs.declared.status.Outcome.{Outcome};
 ghost use Rattle.dpe_top.specs.declared.status.Failure.{Failure};
 ghost use Rattle.dpe_top.specs.Replies.{Replies};
-ghost use Rattle.dpe_top.specs.Reply.{AtOnce, IsAnswered, IsReported, IsText, IsWellFormed, IsWhole, IsWithin, MayEnd, Reads, SomeTaken, Took, answer, answer_of_bytes, line, most_bytes, outcome_of, status_of, summary, task};
+ghost use Rattle.dpe_top.specs.Answers.{line};
+ghost use Rattle.dpe_top.specs.Modes.{task_by};
+ghost use Rattle.dpe_top.specs.Reply.{AtOnce, IsAnswered, IsReported, IsWellFormed, IsWhole, IsWithin, MayEnd, Reads, SomeTaken, Took, answer, answer_to, most_bytes, status_of, task};
 
 use crate::INPUT_MAX;
-use crate::lines::{fault_line, too_long_line};
+use crate::lines::too_long_line;
+use crate::modes::{certify, check, migrate, plan, sample};
 use crate::planning::Planning;
 use crate::reply::Reply;
-use crate::report::has_refused;
 use crate::status::{Failure, Outcome, Status};
 use dpe_words::{Mode, WordFault, settings, usage_line};
 use io_edge::{ReadEnd, Sink, Source, read_all, write_all};
 use planner::Gate;
-use query_json::FileFault;
 use std::alloc::{AllocError, Global};
 use std::thread::Threads;
 
-/// The answer to bytes that are no more than a workload may have.
+/// The answer to the bytes, in a mode that reads them.
 fn reply_to_bytes<R: Threads + Sync, G: Gate>(
     planning: &Planning<G, R>,
     bytes: &[u8],
 ) -> Result<Reply, AllocError>
-    requires ranges { AreInRange planning.now.settings.now }
+    requires reads { Reads (task_by planning.now) }
     requires short { length bytes.now ≤ most_bytes }
-    ensures said { IfOk result (Replies (answer_of_bytes planning.now.settings.now bytes.now)) }
+    ensures said { IfOk result (Replies (answer_to (task_by planning.now) bytes.now)) }
 {
-    let alloc = planning.alloc;
-    match query_json::read(alloc, bytes) {
-        Ok(workload) => Ok(Reply {
-            outcome: if has_refused(&workload) {
-                Outcome::SomeRefused
-            } else {
-                Outcome::Done
-            },
-            text: planning.report(&workload)?,
-        }),
-        Err(FileFault::NoMemory) => Err(AllocError),
-        Err(fault) => Ok(Reply {
-            outcome: Outcome::Input,
-            text: fault_line(alloc, &fault)?.into_bytes(),
-        }),
+    match planning.settings().mode {
+        Mode::Plan | Mode::Narrow | Mode::Zigzag | Mode::Leftdeep => {
+            plan::reply(planning, bytes)
+        }
+        Mode::Migrate => migrate::reply(planning.alloc(), bytes),
+        Mode::Certify => certify::reply(planning, bytes),
+        Mode::Check => check::reply(planning.alloc(), bytes),
+        // The first reads nothing, and no arguments name the other yet.
+        Mode::Sample | Mode::Reopt => unreachable!(),
     }
 }
 
-/// The answer to the bytes of the source.
+/// The answer to the bytes of the source, in a mode that reads them.
 fn read_reply<R: Threads + Sync, S: Source, G: Gate>(
     planning: &Planning<G, R>,
     source: &mut S,
 ) -> Result<Reply, Failure>
-    requires ranges { AreInRange planning.now.settings.now }
-    ensures said { IfOk result (λ r. IfSome (S.left source.old) (λ bytes. Replies (answer_of_bytes planning.now.settings.now bytes) r)) }
+    requires reads { Reads (task_by planning.now) }
+    ensures said { IfOk result (λ r. IfSome (S.left source.old) (λ bytes. Replies (answer_to (task_by planning.now) bytes) r)) }
     ensures took { IfOk result (λ r. Took r.outcome (S.left source.old) (S.left source.new)) }
-    ensures some { IfOk result (λ r. SomeTaken (S.left source.old) (S.left source.new) (λ bytes. Replies (answer_of_bytes planning.now.settings.now bytes) r)) }
+    ensures some { IfOk result (λ r. SomeTaken (S.left source.old) (S.left source.new) (λ bytes. Replies (answer_to (task_by planning.now) bytes) r)) }
     ensures kept { IfOk result (λ _. S.faults source.new ≡ S.faults source.old) }
     ensures err { IfErr result (λ e. MayEnd e (S.faults source.old) (S.faults source.new) (S.sure source.old) (S.left source.old) (S.left source.new)) }
 {
-    let alloc = planning.alloc;
+    let alloc = planning.alloc();
     match read_all(alloc, source, INPUT_MAX) {
         Ok(bytes) => Ok(reply_to_bytes(planning, &bytes)?),
         Err(ReadEnd::TooLong) => Ok(Reply {
@@ -72,18 +67,6 @@ fn read_reply<R: Threads + Sync, S: Source, G: Gate>(
         Err(ReadEnd::Fault) => Err(Failure::ReadFault),
         Err(ReadEnd::NoMemory) => Err(Failure::NoMemory),
     }
-}
-
-/// The summary of the sample workload that the settings' number gives.
-fn summary_reply<R: Threads + Sync, G: Gate>(planning: &Planning<G, R>) -> Result<Reply, AllocError>
-    requires ranges { AreInRange planning.now.settings.now }
-    ensures said { IfOk result (Replies (summary planning.now.settings.now.model planning.now.settings.now.number)) }
-    ensures done { IfOk result (λ r. r.outcome ≡ Outcome.Done) }
-{
-    Ok(Reply {
-        outcome: Outcome::Done,
-        text: planning.sample()?,
-    })
 }
 
 /// The line that says how the program is called.
@@ -117,23 +100,15 @@ fn reply_to<R: Threads + Sync, S: Source, G: Gate>(
 {
     match settings(alloc, words) {
         Ok(settings) => {
-            let planning = Planning {
-                rt,
-                alloc,
-                settings: &settings,
-                gate,
-            };
+            let planning = Planning::by(rt, alloc, &settings, gate);
             match settings.mode {
-                Mode::Plan => read_reply(&planning, source),
-                Mode::Sample => Ok(summary_reply(&planning)?),
-                // No words name these yet.
-                Mode::Migrate
-                | Mode::Certify
-                | Mode::Check
-                | Mode::Narrow
-                | Mode::Zigzag
-                | Mode::Leftdeep
-                | Mode::Reopt => unreachable!(),
+                Mode::Plan | Mode::Narrow | Mode::Zigzag | Mode::Leftdeep => {
+                    read_reply(&planning, source)
+                }
+                Mode::Migrate | Mode::Certify | Mode::Check => read_reply(&planning, source),
+                Mode::Sample => Ok(sample::reply(&planning)?),
+                // No arguments name this one yet.
+                Mode::Reopt => unreachable!(),
             }
         }
         Err(WordFault::Usage) => Ok(usage_reply(alloc)?),
@@ -173,12 +148,12 @@ pub fn dpe<R: Threads + Sync, S: Source, K: Sink, G: Gate>(
         × Rose (S.faults source.old) (S.faults source.new) × (S.sure source.old ≡ false)
         × IsWithin most_bytes (S.left source.old) (S.left source.new) × Keeps (K.held sink.old) (K.held sink.new) }
     ensures write_fault { result ≡ Status.WriteFault → Rose (K.faults sink.old) (K.faults sink.new)
-        × ((text : List ℕ) × AtOnce (task (texts_of words.now)) (λ said. IsText said text)
-        × IfSome (S.left source.old) (λ bytes. IsText (answer (texts_of words.now) bytes) text)
+        × ((outcome : Outcome) × (text : List ℕ) × AtOnce (task (texts_of words.now)) (λ said. said outcome text)
+        × IfSome (S.left source.old) (λ bytes. answer (texts_of words.now) bytes outcome text)
         × (K.sure sink.old < length text)
         × ((n : ℕ) × (n < length text) × Appends (K.held sink.old) (K.held sink.new) (take n text))) }
     ensures unwritten { result ≡ Status.WriteFault → Reads (task (texts_of words.now)) → (unwritten : Outcome)
-        × IfSome (S.left source.old) (λ bytes. unwritten ≡ outcome_of (answer (texts_of words.now) bytes))
+        × IfSome (S.left source.old) (λ bytes. (text : List ℕ) × answer (texts_of words.now) bytes unwritten text)
         × Took unwritten (S.left source.old) (S.left source.new) }
     ensures memory { result ≡ Status.NoMemory → IsWithin (most_bytes + 1) (S.left source.old) (S.left source.new)
         × Keeps (K.held sink.old) (K.held sink.new) }
@@ -187,7 +162,7 @@ pub fn dpe<R: Threads + Sync, S: Source, K: Sink, G: Gate>(
     ensures read_shown { (result ≡ Status.ReadFault) ⊎ (S.faults source.new ≡ S.faults source.old) }
     ensures write_shown { (result ≡ Status.WriteFault) ⊎ (K.faults sink.new ≡ K.faults sink.old) }
 
-    // A workload is reported, where no end fails and there is memory.
+    // Bytes without a fault are reported on, where no end fails and there is memory.
     ensures complete { IfSome (S.left source.old) (λ bytes. IsWellFormed (texts_of words.now) bytes
         → (Rose (S.faults source.old) (S.faults source.new) → ⊥) → (Rose (K.faults sink.old) (K.faults sink.new) → ⊥)
         → IsReported result ⊎ (result ≡ Status.NoMemory)) }

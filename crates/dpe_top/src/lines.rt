@@ -1,8 +1,9 @@
 //! The lines that are written in place of a report.
 ghost use Rattle.std.specs.Prelude.{◌≡◌, ◌++◌, IfOk, OnOk, string_bytes};
-ghost use Rattle.dpe_top.specs.Lines.{fault_line, fault_text, too_long_line};
+ghost use Rattle.dpe_top.specs.Lines.{bad_certificates_line, cert_fault_line, fault_line, fault_text, too_long_line};
 
-use query_json::{FileFault, write_path};
+use plan_report::CertFault;
+use query_json::{FileFault, QUERIES_MAX, TABLES_MAX, write_path};
 use std::alloc::{AllocError, Global};
 
 fn write_fault(out: &mut String, fault: &FileFault) -> Result<(), AllocError>
@@ -14,8 +15,8 @@ fn write_fault(out: &mut String, fault: &FileFault) -> Result<(), AllocError>
             write!(out, "bad shape at ")?;
             write_path(out, *place)
         }
-        FileFault::TooManyTables => write!(out, "more than 4096 tables"),
-        FileFault::TooManyQueries => write!(out, "more than 1024 queries"),
+        FileFault::TooManyTables => write!(out, "more than {TABLES_MAX} tables"),
+        FileFault::TooManyQueries => write!(out, "more than {QUERIES_MAX} queries"),
         FileFault::DuplicateTable(name) => {
             let name = name.text();
             write!(out, "table {name} twice")
@@ -33,6 +34,26 @@ pub fn fault_line(alloc: Global, fault: &FileFault) -> Result<String, AllocError
     write_fault(&mut line, fault)?;
     writeln!(line)?;
     Ok(line)
+}
+
+// The line for a root or a member that is none of a certificate file.
+#[tactic(auto, unfolding(crate::specs::Lines::bad_certificates_line))]
+fn bad_certificates_line() -> &'static str
+    ensures { result.now ≡ bad_certificates_line }
+{
+    "input: bad certificates\n"
+}
+
+/// Why the file is no certificate file.
+pub fn cert_fault_line(alloc: Global, fault: &CertFault) -> Result<String, AllocError>
+    ensures { IfOk result (λ s. string_bytes s ≡ cert_fault_line fault.now) }
+{
+    match fault {
+        CertFault::NotJson => fault_line(alloc, &FileFault::NotJson),
+        CertFault::BadCertificates => String::from_str(alloc, bad_certificates_line()),
+        CertFault::Workload(fault) => fault_line(alloc, fault),
+        CertFault::NoMemory => fault_line(alloc, &FileFault::NoMemory),
+    }
 }
 
 /// The line for more bytes than a workload may have.

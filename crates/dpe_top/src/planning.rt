@@ -1,50 +1,135 @@
 //! What planning by the settings of a command line takes.
-ghost use Rattle.std.specs.Prelude.{◌≡◌, IfOk};
+ghost use Rattle.std.specs.Prelude.{◌≡◌, ◌≤◌, IfOk};
 ghost use Rattle.dpe_words.specs.Line.{AreInRange};
+ghost use Rattle.planner.specs.Costs.{IsCostedPlan};
 ghost use Rattle.planner.specs.Plans.{IsConnected, IsPlanOf};
-ghost use Rattle.dpe_top.specs.Statistics.{options_of, stats_with};
+ghost use Rattle.planner.specs.Ranges.{AreAllowed};
+ghost use Rattle.dpe_top.specs.Statistics.{options_of, options_with, stats_with};
 
+use crate::classes::class_of;
 use cost_model::CostModel;
-use dpe_base::Query;
+use dpe_base::{Query, WORKERS_MAX};
 use dpe_words::Settings;
 use plan_report::Stats;
-use planner::{Gate, Options, Planned, plan};
+use planner::{CostedPlan, Gate, Options, Planned, plan, plan_alone, plan_with_costs};
 use std::alloc::{AllocError, Global};
+use std::marker::Model;
 use std::thread::Threads;
 
-/// The settings, and all else that it takes to plan queries by them.
+/// The settings, and all else that it takes to plan queries by them. Contracts see the settings alone.
 #[derive(Drop)]
 pub struct Planning<'a, G: Gate, R: Threads + Sync> {
-    pub rt: &'a R,
-    pub alloc: Global,
-    pub settings: &'a Settings,
-    pub gate: &'a G,
+    rt: &'a R,
+    alloc: Global,
+    settings: &'a Settings,
+    gate: &'a G,
+}
+
+impl<'a, G: Gate, R: Threads + Sync> Model for Planning<'a, G, R> {
+    ghost use Rattle.dpe_words.specs.declared.choices.Settings.{Settings};
+    ghost use Rattle.dpe_words.specs.Line.{AreInRange};
+
+    ghost Value = { Settings };
+
+    ghost view = { λ p. p.settings.now };
+
+    ghost invariant = { λ p. AreInRange p.settings.now };
 }
 
 impl<'a, G: Gate, R: Threads + Sync> Planning<'a, G, R> {
-    /// The plan of a connected query, by the enumerator, the buffers and the workers of the settings.
-    pub fn plan<M: CostModel>(&self, query: &Query, model: M) -> Result<Planned, AllocError>
-        requires ranges { AreInRange self.now.settings.now }
-        requires connected { IsConnected query.now }
-        ensures { IfOk result (IsPlanOf M.KIND (options_of self.now.settings.now) query.now) }
+    /// Planning by the settings of a command line. The gate is told of each draw and of each buffer.
+    pub fn by(rt: &'a R, alloc: Global, settings: &'a Settings, gate: &'a G) -> Planning<'a, G, R>
+        requires ranges { AreInRange settings.now }
+        ensures { result ≡ settings.entry.now }
     {
-        let options = Options {
+        Planning {
+            rt,
+            alloc,
+            settings,
+            gate,
+        }
+    }
+
+    /// The settings.
+    pub fn settings(&self) -> &Settings
+        ensures { result.now ≡ self.entry.now }
+    {
+        self.settings
+    }
+
+    /// Where memory is taken from.
+    pub fn alloc(&self) -> Global {
+        self.alloc
+    }
+
+    /// What starts threads.
+    pub fn rt(&self) -> &R {
+        self.rt
+    }
+
+    /// How many workers there are.
+    pub fn workers(&self) -> u32
+        ensures value { result ≡ self.now.workers }
+        ensures some { 1 ≤ result }
+    {
+        self.settings.workers
+    }
+
+    // How the settings ask a query to be planned, but by so many workers.
+    fn options(&self, workers: u32) -> Options
+        requires { (1 ≤ workers) × (workers ≤ WORKERS_MAX) }
+        ensures value { result ≡ options_with self.now workers }
+        ensures allowed { AreAllowed result }
+    {
+        Options {
             enumerator: self.settings.enumerator,
             buffer: self.settings.buffer,
-            workers: self.settings.workers,
-        };
+            workers,
+            class: class_of(self.settings.mode),
+        }
+    }
+
+    /// The plan of a connected query, by the enumerator, the buffers and the workers of the settings, and among the trees of
+    /// the mode's class.
+    pub fn plan<M: CostModel>(&self, query: &Query, model: M) -> Result<Planned, AllocError>
+        requires connected { IsConnected query.now }
+        ensures { IfOk result (IsPlanOf M.KIND (options_of self.now) query.now) }
+    {
+        let options = self.options(self.settings.workers);
         plan(self.rt, self.alloc, query, model, &options, self.gate)
     }
 
-    /// The statistics of a plan, where the settings ask for them.
-    pub fn stats(&self, planned: &Planned) -> Option<Stats>
-        ensures { result ≡ stats_with self.now.settings.now planned.now.buffers planned.now.rounds planned.now.probes }
+    /// The same plan by one worker, in the calling thread.
+    pub fn plan_alone<M: CostModel>(&self, query: &Query, model: M) -> Result<Planned, AllocError>
+        requires connected { IsConnected query.now }
+        ensures { IfOk result (IsPlanOf M.KIND (options_with self.now 1) query.now) }
     {
-        if !self.settings.stats {
+        let options = self.options(1);
+        plan_alone(self.alloc, query, model, &options, self.gate)
+    }
+
+    /// The plan of a connected query with the least cost of each set of its relations, found in the same way.
+    pub fn plan_with_costs<M: CostModel>(
+        &self,
+        query: &Query,
+        model: M,
+    ) -> Result<CostedPlan, AllocError>
+        requires connected { IsConnected query.now }
+        ensures { IfOk result (IsCostedPlan M.KIND query.now) }
+    {
+        let options = self.options(self.settings.workers);
+        plan_with_costs(self.rt, self.alloc, query, model, &options, self.gate)
+    }
+
+    /// The statistics of a plan, where the settings ask for them and the mode prints them.
+    pub fn stats(&self, planned: &Planned) -> Option<Stats>
+        ensures { result ≡ stats_with self.now planned.now.buffers planned.now.rounds planned.now.probes }
+    {
+        if !self.settings.stats || class_of(self.settings.mode).is_some() {
             return None;
         }
         Some(Stats {
-            kind: self.settings.enumerator,
+            enumerator: self.settings.enumerator,
             buffer: self.settings.buffer,
             buffers: planned.buffers,
             rounds: planned.rounds,

@@ -8,13 +8,13 @@ use std::alloc::AllocError;
 /// How a run ends. Its number is the program's exit status.
 #[derive(Clone, Copy, Debug, PartialEq, Eq)]
 pub enum Status {
-    /// Every query was planned: the report is written.
+    /// The whole answer is written, and no query is refused.
     Done = 0,
-    /// The report is written, and some query in it is refused.
+    /// The whole answer is written, and some query in it is refused.
     SomeRefused = 1,
-    /// The words are no command line: the usage line is written, and the source was not read.
+    /// The arguments are invalid: the usage line is written, and the source was not read.
     Usage = 2,
-    /// The bytes are no workload: the line that says why is written.
+    /// The bytes can't be read in this mode: the line that says why is written.
     Input = 3,
     /// The source failed: nothing is written.
     ReadFault = 4,
@@ -33,21 +33,21 @@ impl Status {
     }
 }
 
-/// How an answer that is made whole ends, once it is written.
+/// How a run ends once its answer, which is made whole beforehand, is written.
 #[derive(Clone, Copy, Debug, PartialEq, Eq)]
 pub enum Outcome {
-    /// Every query is planned.
+    /// No query is refused.
     Done,
     /// Some query is refused.
     SomeRefused,
-    /// The words are no command line.
+    /// The arguments are invalid.
     Usage,
-    /// The bytes are no workload.
+    /// The bytes can't be read in this mode.
     Input,
 }
 
 impl Outcome {
-    /// The status, once the whole answer is written.
+    /// The status of a run that has written its whole answer.
     pub fn status(self) -> Status
         ensures value { result ≡ status_of self }
         ensures whole { IsWhole result }

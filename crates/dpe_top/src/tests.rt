@@ -1,8 +1,12 @@
+mod batches;
+mod certificates;
+mod classes;
 mod cuts;
 mod files;
 mod formats;
 mod gates;
 mod hostile;
+mod migrations;
 mod observers;
 mod plans;
 mod refusals;

@@ -3,6 +3,7 @@ use Rattle.std.specs.Prelude.{◌≡◌, ◌^◌, ◌-◌, ◌≤◌, List, fals
 use Rattle.std.specs.declared.alloc.Global.{Global}
 use Rattle.clap.specs.Words.{Text, first_of, matches_of, takes}
 use Rattle.cost_model.specs.declared.model.ModelKind.TheVariants.{Ops}
+use Rattle.dpe_base.specs.declared.TheConstants.{BUFFER_MAX, WORKERS_MAX}
 use Rattle.dpe_base.specs.declared.kind.Kind.TheVariants.{DpCcp}
 use Rattle.dpe_words.specs.declared.choices.Mode.TheVariants.{Plan}
 use Rattle.dpe_words.specs.declared.choices.Settings.{Settings}
@@ -57,8 +58,8 @@ unfoldable pub settings_by : Given → Option Settings
 settings_by given = do
   mode ← value_or Plan (meaning_in modes) given.mode
   enumerator ← value_or DpCcp (meaning_in enumerators) given.enumerator
-  buffer ← value_or 4096 (number_in 1 65536) given.buffer
-  workers ← value_or 4 (number_in 1 64) given.workers
+  buffer ← value_or 4096 (number_in 1 BUFFER_MAX) given.buffer
+  workers ← value_or 4 (number_in 1 WORKERS_MAX) given.workers
   model ← value_or Ops (meaning_in models) given.model
   format ← value_or format.Text (meaning_in formats) given.format
   stats ← value_or false (meaning_in switches) given.stats
@@ -77,8 +78,8 @@ IsLine words = IsSome (settings_of words)
 
 -- the numbers of a command line's settings
 pub record AreInRange (s : Settings) : Type 0 where
-  pub buffer : (1 ≤ s.buffer) × (s.buffer ≤ 65536)
-  pub workers : (1 ≤ s.workers) × (s.workers ≤ 64)
+  pub buffer : (1 ≤ s.buffer) × (s.buffer ≤ BUFFER_MAX)
+  pub workers : (1 ≤ s.workers) × (s.workers ≤ WORKERS_MAX)
 
 -- the answer, seen by view, is what the words say, or Usage where they say nothing; running out of memory may be reported at any point
 abbrev pub IsSaidBy : {X Y : Type 0} → (X → Y) → Result X WordFault → Option Y → Type 0

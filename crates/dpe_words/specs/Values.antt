@@ -10,7 +10,7 @@ use Rattle.cost_model.specs.declared.model.ModelKind.TheVariants.{Ops, Cout}
 use Rattle.dpe_base.specs.declared.kind.Kind.{Kind}
 use Rattle.dpe_base.specs.declared.kind.Kind.TheVariants.{DpCcp, DpSub, DpSize, DpSva}
 use Rattle.dpe_words.specs.declared.choices.Mode.{Mode}
-use Rattle.dpe_words.specs.declared.choices.Mode.TheVariants.{Plan, Sample}
+use Rattle.dpe_words.specs.declared.choices.Mode.TheVariants.{Plan, Sample, Migrate, Certify, Check, Narrow, Zigzag, Leftdeep}
 use Rattle.plan_report.specs.Names.{enumerator_name}
 use Rattle.plan_report.specs.declared.report.Format.{Format}
 use Rattle.plan_report.specs.declared.report.Format.TheVariants as format
@@ -21,6 +21,12 @@ abbrev pub modes : List (Text × Mode)
 modes =
     (codes "plan", Plan)
     ∷ (codes "sample", Sample)
+    ∷ (codes "migrate", Migrate)
+    ∷ (codes "certify", Certify)
+    ∷ (codes "check", Check)
+    ∷ (codes "narrow", Narrow)
+    ∷ (codes "zigzag", Zigzag)
+    ∷ (codes "leftdeep", Leftdeep)
     ∷ []
 
 abbrev pub enumerators : List (Text × Kind)

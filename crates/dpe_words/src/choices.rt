@@ -7,8 +7,7 @@ use dpe_base::Kind;
 use plan_report::Format;
 use std::alloc::{AllocError, AllocFailed, Global};
 
-/// What the program is asked to do. The modes after `Sample` aren't built yet: no argument names them, so that
-/// `--mode certify` is invalid.
+/// What the program is asked to do. The mode `Reopt` isn't built yet: no argument names it, so that `--mode reopt` is invalid.
 #[derive(Clone, Copy, Debug, PartialEq, Eq)]
 pub enum Mode {
     /// A report of the workload that is read.
@@ -21,11 +20,11 @@ pub enum Mode {
     Certify,
     /// Checks certificates.
     Check,
-    /// Trees in which a side of each join has at most two relations.
+    /// A report with plans among the trees in which a side of each join has at most two relations.
     Narrow,
-    /// Trees in which a side of each join is a relation.
+    /// A report with plans among the trees in which a side of each join is a relation.
     Zigzag,
-    /// Trees in which the right side of each join is a relation.
+    /// A report with plans among the trees in which the right side of each join is a relation.
     Leftdeep,
     /// Plans again after changed rows.
     Reopt,

@@ -68,9 +68,6 @@ const WORKERS_MIN: u32 = 1;
 
 const WORKERS_DEFAULT: u32 = 4;
 
-// The definition of a command line has the numbers themselves.
-const _: () = prove!(BUFFER_MAX == 65_536 && WORKERS_MAX == 64);
-
 /// What the values ask for, where each stands in its table.
 #[tactic(auto, unfolding(crate::specs::Line::settings_by), using(crate::proofs::Numbers::in_range))]
 fn settings_in(texts: &Texts) -> Option<Settings>

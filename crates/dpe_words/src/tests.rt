@@ -41,7 +41,7 @@ fn words_that_are_no_line(rt: HostRuntime) -> Result<(), Fail> {
         &["--mode", "plan", "--mode", "plan"],
         &["--mode=plan", "--mode", "plan"],
         &["--mode", "unheard"],
-        &["--mode", "certify"],
+        &["--mode", "reopt"],
         &["--mode", "sample", "--format", "xml"],
         &["--mode", "--"],
         &["plan"],
@@ -156,6 +156,25 @@ fn lines_and_their_settings(rt: HostRuntime) -> Result<(), Fail> {
     ];
     for (line, want) in lines {
         assert_eq!(rt; settings_of(alloc, line), Ok(want), "at {line:?}");
+    }
+    Ok(())
+}
+
+#[test]
+fn modes_and_their_names(rt: HostRuntime) -> Result<(), Fail> {
+    let alloc = rt.alloc();
+    for (name, mode) in [
+        ("plan", Mode::Plan),
+        ("sample", Mode::Sample),
+        ("migrate", Mode::Migrate),
+        ("certify", Mode::Certify),
+        ("check", Mode::Check),
+        ("narrow", Mode::Narrow),
+        ("zigzag", Mode::Zigzag),
+        ("leftdeep", Mode::Leftdeep),
+    ] {
+        let want = Settings { mode, ..DEFAULTS };
+        assert_eq!(rt; settings_of(alloc, &["--mode", name]), Ok(want), "{name}");
     }
     Ok(())
 }

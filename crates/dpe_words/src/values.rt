@@ -16,6 +16,12 @@ pub fn mode_of(text: Option<&str>) -> Option<Mode>
     match text {
         None | Some("plan") => Some(Mode::Plan),
         Some("sample") => Some(Mode::Sample),
+        Some("migrate") => Some(Mode::Migrate),
+        Some("certify") => Some(Mode::Certify),
+        Some("check") => Some(Mode::Check),
+        Some("narrow") => Some(Mode::Narrow),
+        Some("zigzag") => Some(Mode::Zigzag),
+        Some("leftdeep") => Some(Mode::Leftdeep),
         Some(_) => None,
     }
 }

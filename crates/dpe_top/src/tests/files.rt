@@ -71,6 +71,51 @@ fn numbered(alloc: Global, number: u32) -> Result<String, AllocError> {
     Ok(name)
 }
 
+/// A query over r0, r1 and so on with joins that keep all.
+fn write_numbered_query(
+    file: &mut String,
+    alloc: Global,
+    name: &str,
+    count: u32,
+    joins: &[(u8, u8)],
+) -> Result<(), AllocError> {
+    next_item(file)?;
+    write!(file, "{{\"name\":\"{name}\",\"relations\":[")?;
+    for i in 0..count {
+        let alias = numbered(alloc, i)?;
+        write_relation(file, alias.as_str())?;
+    }
+    file.push_str("],\"joins\":[")?;
+    for (left, right) in joins {
+        let left = numbered(alloc, *left as u32)?;
+        let right = numbered(alloc, *right as u32)?;
+        write_join(file, left.as_str(), right.as_str(), 1, 1)?;
+    }
+    file.push_str("]}")
+}
+
+/// A file with a query, so many times, over r0, r1 and so on of this many rows, with joins that keep all.
+pub fn repeated_file(
+    alloc: Global,
+    name: &str,
+    count: u32,
+    rows: u64,
+    joins: &[(u8, u8)],
+    times: u32,
+) -> Result<String, AllocError> {
+    let mut file = String::from_str(alloc, "{\"tables\":[")?;
+    for i in 0..count {
+        let table = numbered(alloc, i)?;
+        write_table(&mut file, table.as_str(), rows)?;
+    }
+    file.push_str("],\"queries\":[")?;
+    for _ in 0..times {
+        write_numbered_query(&mut file, alloc, name, count, joins)?;
+    }
+    file.push_str("]}")?;
+    Ok(file)
+}
+
 /// A file with one query over r0, r1 and so on of this many rows, with joins that keep all.
 pub fn numbered_file(
     alloc: Global,
@@ -79,24 +124,7 @@ pub fn numbered_file(
     rows: u64,
     joins: &[(u8, u8)],
 ) -> Result<String, AllocError> {
-    let mut file = String::from_str(alloc, "{\"tables\":[")?;
-    for i in 0..count {
-        let table = numbered(alloc, i)?;
-        write_table(&mut file, table.as_str(), rows)?;
-    }
-    write_query(&mut file, name)?;
-    for i in 0..count {
-        let alias = numbered(alloc, i)?;
-        write_relation(&mut file, alias.as_str())?;
-    }
-    file.push_str("],\"joins\":[")?;
-    for (left, right) in joins {
-        let left = numbered(alloc, *left as u32)?;
-        let right = numbered(alloc, *right as u32)?;
-        write_join(&mut file, left.as_str(), right.as_str(), 1, 1)?;
-    }
-    file.push_str("]}]}")?;
-    Ok(file)
+    repeated_file(alloc, name, count, rows, joins, 1)
 }
 
 /// A file with so many tables r0, r1 and so on, and so many queries, each over r0.

@@ -59,6 +59,7 @@ impl Counts {
 #[derive(Drop)]
 pub struct Tally {
     draws: AtomicU64,
+    fillings: AtomicU64,
     pub tickets: Counts,
     pub workers: Counts,
     pub buffers: Counts,
@@ -74,6 +75,7 @@ impl Tally {
     ) -> Result<Tally, AllocError> {
         Ok(Tally {
             draws: AtomicU64::new(0),
+            fillings: AtomicU64::new(0),
             tickets: Counts::below(alloc, tickets)?,
             workers: Counts::below(alloc, workers)?,
             buffers: Counts::below(alloc, buffers)?,
@@ -83,6 +85,11 @@ impl Tally {
     /// How many tickets were drawn.
     pub fn draws(&self) -> u64 {
         self.draws.load(Ordering::SeqCst)
+    }
+
+    /// How often a buffer was filled.
+    pub fn fillings(&self) -> u64 {
+        self.fillings.load(Ordering::SeqCst)
     }
 }
 
@@ -94,6 +101,7 @@ impl Gate for Tally {
     }
 
     fn filling(&self, buffer: u64) {
+        self.fillings.fetch_add(1, Ordering::SeqCst);
         self.buffers.note(buffer);
     }
 }
@@ -210,4 +218,37 @@ impl Gate for DrawMeetsFilling {
             self.meeting.come(1);
         }
     }
+}
+
+/// The first draw of each of the first runs waits for those of the others.
+#[derive(Drop)]
+pub struct RunsMeet {
+    begun: AtomicU64,
+    meeting: Meeting,
+}
+
+impl RunsMeet {
+    /// For so many runs.
+    pub fn of(alloc: Global, runs: u64) -> Result<RunsMeet, AllocError> {
+        Ok(RunsMeet {
+            begun: AtomicU64::new(0),
+            meeting: Meeting::of(alloc, runs)?,
+        })
+    }
+
+    /// Whether so many runs began, no more, and none went on alone.
+    pub fn took_place(&self) -> bool {
+        self.meeting.took_place()
+    }
+}
+
+impl Gate for RunsMeet {
+    fn before(&self, _worker: u32, ticket: u64) {
+        if ticket == 0 {
+            let number = self.begun.fetch_add(1, Ordering::SeqCst);
+            self.meeting.come(number as usize);
+        }
+    }
+
+    fn filling(&self, _buffer: u64) {}
 }

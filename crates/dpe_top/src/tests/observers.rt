@@ -122,21 +122,57 @@ fn each_number_is_seen(rt: HostRuntime) -> Result<(), Fail> {
     Ok(())
 }
 
-// How sample 7 is planned, which has 2,636 pairs and 45 sizes of unions: the enumerator, the buffer, the workers, and how
-// many tickets they draw.
-static SAMPLES: [(&str, &str, u64, &str, u64); 6] = [
-    ("dpccp", "65536", 64, "64", 5516),
-    ("dpccp", "65536", 1, "1", 2681),
-    ("dpccp", "3", 1, "1", 4495),
-    ("dpsub", "3", 1, "1", 3773),
-    ("dpsize", "3", 1, "1", 3541),
-    ("dpsize", "16", 3, "3", 3245),
+// How the clique of ten relations is planned, without statistics, by the other enumerators: the tickets that the workers draw, one for
+// each pair and one past the pairs for each worker in each round, and the buffers that are filled. The enumerator shows in the rounds.
+static ENUMERATORS: [(&str, &str, u64, &str, u64, u64); 6] = [
+    ("dpsub", "1000", 1, "1", 28_655, 29),
+    ("dpsub", "4096", 3, "3", 28_648, 7),
+    ("dpsize", "1000", 1, "1", 28_538, 29),
+    ("dpsize", "4096", 3, "3", 28_546, 7),
+    ("dpsva", "1000", 1, "1", 28_538, 29),
+    ("dpsva", "4096", 3, "3", 28_546, 7),
+];
+
+#[test]
+fn pairs_are_drawn_by_the_enumerator_that_is_asked_for(rt: HostRuntime) -> Result<(), Fail> {
+    let alloc = rt.alloc();
+    for (enumerator, buffer, count, workers, draws, buffers) in ENUMERATORS {
+        let words = [
+            "--enumerator",
+            enumerator,
+            "--buffer",
+            buffer,
+            "--workers",
+            workers,
+        ];
+        let gate = Tally::below(alloc, draws, count, buffers)?;
+        assert!(rt;
+            is_planned_under(&rt, alloc, 10, &words, &gate)?,
+            "{words:?}"
+        );
+        assert_eq!(rt; gate.draws(), draws, "{words:?}");
+        assert!(rt; gate.tickets.has_each_once(), "{words:?}");
+        assert!(rt; gate.workers.has_each(), "{words:?}");
+        assert!(rt; gate.buffers.has_each_once(), "{words:?}");
+    }
+    Ok(())
+}
+
+// How sample 7 is planned, which has 2,636 pairs and 45 sizes of unions: the enumerator, the buffer, the workers, how
+// many tickets they draw, how often a buffer is filled, and how many buffers the query with the most pairs has.
+static SAMPLES: [(&str, &str, u64, &str, u64, u64, u64); 6] = [
+    ("dpccp", "65536", 64, "64", 5516, 8, 1),
+    ("dpccp", "65536", 1, "1", 2681, 8, 1),
+    ("dpccp", "3", 1, "1", 4495, 884, 415),
+    ("dpsub", "3", 1, "1", 3773, 884, 415),
+    ("dpsize", "3", 1, "1", 3541, 884, 415),
+    ("dpsize", "16", 3, "3", 3245, 169, 78),
 ];
 
 #[test]
 fn samples_are_planned_as_is_asked_for(rt: HostRuntime) -> Result<(), Fail> {
     let alloc = rt.alloc();
-    for (enumerator, buffer, count, workers, draws) in SAMPLES {
+    for (enumerator, buffer, count, workers, draws, fillings, buffers) in SAMPLES {
         let words = [
             "--mode=sample",
             "--number=7",
@@ -147,13 +183,15 @@ fn samples_are_planned_as_is_asked_for(rt: HostRuntime) -> Result<(), Fail> {
             "--workers",
             workers,
         ];
-        let gate = Tally::below(alloc, 0, count, 1)?;
+        let gate = Tally::below(alloc, 0, count, buffers)?;
         let source = MemSource::new(Vec::new(alloc), 64, Vec::new(alloc));
         let sink = MemSink::new(alloc, 256, 64, Vec::new(alloc))?;
         let (status, _) = run(&rt, alloc, &words, source, sink, &gate)?;
         assert_eq!(rt; status, Status::Done, "{words:?}");
         assert_eq!(rt; gate.draws(), draws, "{words:?}");
+        assert_eq!(rt; gate.fillings(), fillings, "{words:?}");
         assert!(rt; gate.workers.has_each(), "{words:?}");
+        assert!(rt; gate.buffers.has_each(), "{words:?}");
     }
     Ok(())
 }

@@ -51,7 +51,7 @@ fn faults_of_the_file_are_named(rt: HostRuntime) -> Result<(), Fail> {
     let point =
         "{\"tables\":[{\"name\":\"a\",\"rows\":1},{\"name\":\"b\",\"rows\":1}],\"queries\":[{\"name\":\"q\",\
 \"relations\":[{\"alias\":\"a\",\"table\":\"a\"},{\"alias\":\"b\",\"table\":\"b\"}],\"joins\":[{\"left\":\"a\",\"right\":\"b\",\"selectivity\":1.5}]}]}";
-    let two = "{\"version\":2,\"tables\":[],\"queries\":[]}";
+    let three = "{\"version\":3,\"tables\":[],\"queries\":[]}";
     let same =
         "{\"tables\":[{\"name\":\"a\",\"rows\":1},{\"name\":\"a\",\"rows\":1}],\"queries\":[]}";
     let cases: [(Vec<u8>, &str); 10] = [
@@ -67,7 +67,7 @@ fn faults_of_the_file_are_named(rt: HostRuntime) -> Result<(), Fail> {
             "input: bad shape at $.queries[0].joins[0].selectivity\n",
         ),
         (
-            two.as_bytes().to_vec(alloc)?,
+            three.as_bytes().to_vec(alloc)?,
             "input: bad shape at $.version\n",
         ),
         (

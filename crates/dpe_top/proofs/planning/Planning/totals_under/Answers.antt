@@ -1,6 +1,6 @@
 use Rattle.std.proofs.Common.{◌+◌, ap, sym, subst}
-use Rattle.dpe_top.specs.declared.summary.Totals.{Totals}
-use Rattle.dpe_top.specs.Summary.{query_in}
+use Rattle.dpe_top.specs.declared.modes.sample.Totals.{Totals}
+use Rattle.dpe_top.specs.Modes.Sample.{query_in}
 use Rattle.dpe_top.proofs.Sums.{HasSummed, summed_more, summed_same}
 use Rattle.dpe_top.proofs.planning.Planning.totals_under.Goals as goal
 use Rattle.dpe_top.proofs.planning.Planning.totals_under.Goals.{in-Accepted+in_ok-share, in_default}

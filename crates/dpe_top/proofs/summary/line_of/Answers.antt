@@ -1,7 +1,0 @@
-use Rattle.std.proofs.Common.{append_assoc, ◌∙◌}
-use Rattle.dpe_top.specs.Summary.{summary_line}
-use Rattle.dpe_top.proofs.summary.line_of.Goals as goal
-
-pub returns : goal.returns
-unfolding summary_line
-returns c = c.in_ok-writeln.ensures.bytes ∙ rw (c.new-line.ensures.bytes) (simp append_assoc)
