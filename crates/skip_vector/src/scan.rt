@@ -23,7 +23,8 @@ impl SkipPart {
     pub fn next_free<L: Ledger>(&self, from: usize, x: RelSet, steps: &mut Steps<L>) -> Free
         requires { from ≤ length self.now }
         ensures found { MatchOption result.found (NoneFree self.now x from (length self.now)) (λ f. IsFirstFree self.now x from f.0 f.1) }
-        ensures probes { MatchOption result.found (result.probes ≡ probes self.now from x (length self.now - from)) (λ f. result.probes ≡ probes self.now from x (f.0 + 1 - from)) }
+        ensures probes { MatchOption result.found (result.probes ≡ probes self.now from x (length self.now - from))
+            (λ f. result.probes ≡ probes self.now from x (f.0 + 1 - from)) }
         ensures steps { steps.new ≡ steps.old + result.probes }
     {
         let mut place = from;
