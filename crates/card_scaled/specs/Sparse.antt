@@ -1,20 +1,31 @@
 -- The table of a query of which the connected sets alone are kept.
-use Rattle.std.specs.Prelude.{◌≡◌, ◌≢◌, ◌^◌, List, All, map}
-use Rattle.std.specs.List.{range_with_len}
+use Rattle.std.specs.Prelude.{◌≡◌, ◌≢◌, ℕ, ◌^◌, ◌==◌, List, All, map, if◌then◌else◌}
+use Rattle.std.specs.List.{range_with_len, filter}
 use Rattle.dpe_base.specs.declared.query.Pred.{Pred}
 use Rattle.dpe_base.specs.Queries.{JoinQuery, relations}
+use Rattle.dpe_base.specs.Sets.{member}
 use Rattle.card_scaled.specs.declared.factors.Factors.{Factors}
+use Rattle.card_scaled.specs.declared.factors.Link.{Link}
 use Rattle.card_scaled.specs.declared.places.Place.{Place}
-use Rattle.card_scaled.specs.Scaled.{ScaledNumber, frac}
+use Rattle.card_scaled.specs.Scaled.{ScaledNumber, frac, mul}
 use Rattle.card_scaled.specs.Cards.{RowTable, base_of, card, rows}
 
-abbrev pub fraction_of : Pred → ScaledNumber
-fraction_of p = frac p.num p.den
+-- the predicate, seen from its greater relation
+abbrev pub link_of : Pred → Link
+link_of p = record { low = p.low; fraction = frac p.num p.den }
+
+-- the predicates up to relation r
+unfoldable pub links_up : JoinQuery → ℕ → List Link
+links_up q r = map link_of (filter (λ p. p.high == r) q.preds)
+
+-- c times the predicate's fraction, where s has its lesser relation
+unfoldable pub times_link : ℕ → ScaledNumber → Link → ScaledNumber
+times_link s c link = if member s link.low == 1 then mul c link.fraction else c
 
 -- what the query's relations and predicates bring into a product
 pub record AreFactors (q : JoinQuery) (f : Factors) : Type 0 where
   pub bases : f.bases.items ≡ map base_of q.rels
-  pub fractions : f.fractions.items ≡ map fraction_of q.preds
+  pub links : map (λ l. l.items) f.links.items ≡ map (links_up q) (range_with_len 0 (relations q))
 
 -- a place is free, or has the set's number of rows before rounding
 abbrev pub HasCard : JoinQuery → Place → Type 0

@@ -9,7 +9,7 @@ use dpe_base::{INPUT_CAP, Pred, Query, Rel, RelSet};
 use std::alloc::{AllocError, Global};
 use std::marker::Model;
 
-// The relation's rows, at least 1, times its filter's fraction.
+/// The relation's rows, at least 1, times its filter's fraction.
 #[tactic(auto, unfolding(crate::specs::Cards::base_of))]
 pub fn base_of(rel: &Rel) -> Scaled
     requires some { 1 ≤ rel.now.num }

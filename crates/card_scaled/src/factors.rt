@@ -1,24 +1,34 @@
 ghost use Rattle.std.specs.Prelude.{◌≡◌, ◌≢◌, ◌<◌, ◌^◌, ◌+◌, length, map, IfOk};
+ghost use Rattle.std.specs.List.{range_with_len};
 ghost use Rattle.dpe_base.specs.Queries.{relations};
 ghost use Rattle.dpe_base.specs.Sets.{Within, full};
 ghost use Rattle.card_scaled.specs.Scaled.{IsNear};
-ghost use Rattle.card_scaled.specs.Cards.{base_of, times_pred, with_relation, card};
-ghost use Rattle.card_scaled.specs.Sparse.{AreFactors, AreCards, fraction_of};
+ghost use Rattle.card_scaled.specs.Cards.{base_of, with_relation, card};
+ghost use Rattle.card_scaled.specs.Sparse.{AreFactors, AreCards, links_up, times_link};
 
 use crate::cards::base_of;
 use crate::places::Places;
 use crate::scaled::Scaled;
 use connected_sets::greatest;
-use dpe_base::{Pred, Query, RelSet};
+use dpe_base::{Query, RelSet};
 use std::alloc::{AllocError, Global};
+
+/// A predicate, seen from its greater relation.
+#[derive(Clone, Copy, Debug)]
+pub struct Link {
+    /// The lesser relation.
+    pub low: u8,
+    /// The predicate's fraction.
+    pub fraction: Scaled,
+}
 
 /// What the relations and the predicates of a query bring into each product.
 #[derive(Drop)]
 pub struct Factors {
     /// Of each relation, its rows times its filter's fraction.
     pub bases: Vec<Scaled>,
-    /// The fraction of each predicate.
-    pub fractions: Vec<Scaled>,
+    /// Of each relation, the predicates from lesser ones up to it.
+    pub links: Vec<Vec<Link>>,
 }
 
 fn bases_of(alloc: Global, query: &Query) -> Result<Vec<Scaled>, AllocError>
@@ -32,25 +42,45 @@ fn bases_of(alloc: Global, query: &Query) -> Result<Vec<Scaled>, AllocError>
     Ok(bases)
 }
 
-fn fractions_of(alloc: Global, query: &Query) -> Result<Vec<Scaled>, AllocError>
-    ensures { IfOk result (λ v. v.items ≡ map fraction_of query.now.preds) }
+// The predicates up to `r`.
+#[tactic(auto, unfolding(crate::specs::Sparse::links_up))]
+fn links_up(alloc: Global, query: &Query, r: u8) -> Result<Vec<Link>, AllocError>
+    ensures { IfOk result (λ v. v.items ≡ links_up query.now r) }
 {
     let preds = query.preds();
-    let mut fractions = Vec::with_capacity(alloc, preds.len())?;
+    let mut links = Vec::new(alloc);
     for p in preds {
-        fractions.push(Scaled::frac(p.num, p.den))?;
+        if p.high == r {
+            let fraction = Scaled::frac(p.num, p.den);
+            links.push(Link {
+                low: p.low,
+                fraction,
+            })?;
+        }
     }
-    Ok(fractions)
+    Ok(links)
 }
 
-// `c` times the predicate's fraction, where the predicate leads from a member of `s` up to `r`.
-fn times_fraction(s: RelSet, r: u8, c: Scaled, p: Pred, fraction: Scaled) -> Scaled
-    requires near { IsNear (2 ^ 24) c.scale }
-    requires known { fraction ≡ fraction_of p }
-    ensures { result ≡ times_pred s r c p }
+// Those of each relation.
+fn all_links(alloc: Global, query: &Query) -> Result<Vec<Vec<Link>>, AllocError>
+    ensures { IfOk result (λ v. map (λ l. l.items) v.items ≡ map (links_up query.now) (range_with_len 0 (relations query.now))) }
 {
-    if p.high == r && s.has(p.low) {
-        c.mul(fraction)
+    let mut all = Vec::new(alloc);
+    for r in 0..query.n() {
+        let links = links_up(alloc, query, r)?;
+        all.push(links)?;
+    }
+    Ok(all)
+}
+
+// `c` times the predicate's fraction, where `s` has its lesser relation.
+fn times_link(s: RelSet, c: Scaled, link: Link) -> Scaled
+    requires near { IsNear (2 ^ 24) c.scale }
+    requires fraction { IsNear (2 ^ 24) link.fraction.scale }
+    ensures { result ≡ times_link s c link }
+{
+    if s.has(link.low) {
+        c.mul(link.fraction)
     } else {
         c
     }
@@ -62,8 +92,8 @@ impl Factors {
         ensures { IfOk result (λ f. AreFactors query.now f) }
     {
         let bases = bases_of(alloc, query)?;
-        let fractions = fractions_of(alloc, query)?;
-        Ok(Factors { bases, fractions })
+        let links = all_links(alloc, query)?;
+        Ok(Factors { bases, links })
     }
 
     // `c` with one more relation, where `s` has those below it.
@@ -73,12 +103,12 @@ impl Factors {
         requires near { IsNear (2 ^ 23 + 2 ^ 22) c.scale }
         ensures { result ≡ with_relation query.now s c r }
     {
+        query.recall();
         let base = self.bases[r as usize];
         let mut product = c.mul(base);
-        let preds = query.preds();
-        'preds: for i in 0..preds.len() {
-            let fraction = self.fractions[i];
-            product = times_fraction(s, r, product, preds[i], fraction);
+        let links = self.links[r as usize].as_slice();
+        'links: for i in 0..links.len() {
+            product = times_link(s, product, links[i]);
         }
         product
     }
