@@ -29,6 +29,7 @@ fn join(alloc: Global, op: u8, left: Tree, right: Tree) -> Result<Tree, AllocErr
     })
 }
 
+/// How many relations the tree has.
 pub fn leaves(tree: &Tree) -> usize {
     match tree {
         Tree::Leaf(_) => 1,
@@ -36,7 +37,7 @@ pub fn leaves(tree: &Tree) -> usize {
     }
 }
 
-// Whether the class has joins of so many relations with so many.
+/// Whether the class has joins of so many relations with so many.
 pub fn may_join(class: Class, left: usize, right: usize) -> bool {
     match class {
         Class::Narrow => left <= 2 || right <= 2,
@@ -45,6 +46,7 @@ pub fn may_join(class: Class, left: usize, right: usize) -> bool {
     }
 }
 
+/// Whether the tree is one of the class: each of its joins is.
 pub fn is_in(class: Class, tree: &Tree) -> bool {
     match tree {
         Tree::Leaf(_) => true,
@@ -124,7 +126,7 @@ fn class_trees(
     Ok(all)
 }
 
-// The least word of the legal trees of the class among these.
+/// The least word of the legal trees of the class among these.
 pub fn least_of<M: CostModel>(model: &M, query: &Query, class: Class, trees: &[Tree]) -> u64 {
     let graph = Graph::of(query);
     let mut least = EMPTY;
