@@ -1,8 +1,12 @@
+ghost use Rattle.std.specs.Prelude.{◌≡◌, ◌<◌};
+
 use crate::{DpSize, DpSva, SkipParts};
-use dpe_base::{Pair, Pred, Query, Rel};
+use dpe_base::{Pair, Pred, Query, Rel, Steps};
 use join_graph::Graph;
 use pair_stream::{DpSub, PairStream, Parts, collect_pairs};
 use std::alloc::Global;
+use std::marker::Brand;
+use std::sync::ledger::{Blank, Ledger};
 use std::test::Fail;
 
 #[derive(Clone, Copy)]
@@ -178,6 +182,53 @@ fn dpsva_takes_the_known_probes(rt: HostRuntime) -> Result<(), Fail> {
         let graph = graph(rt.alloc(), shape, n)?;
         assert_eq!(rt; by_skips(rt.alloc(), &graph)?.1, want, "of {n}");
     }
+    Ok(())
+}
+
+// How many probes there were when each of the first pairs was found.
+fn probes_when_found<L: Ledger, S: PairStream>(
+    alloc: Global,
+    stream: &mut S,
+    pairs: u32,
+    blank: Blank,
+) -> Result<Vec<u64>, Fail>
+    requires name { blank.name ≡ L.name }
+    requires parts { blank.parts ≡ L.parts }
+    requires some { 0 < L.parts }
+{
+    let mut steps = Steps::<L>::new(blank);
+    let mut counts = Vec::new(alloc);
+    for _ in 0..pairs {
+        if stream.next(&mut steps).is_none() {
+            break;
+        }
+        counts.push(stream.probes())?;
+    }
+    Ok(counts)
+}
+
+fn first_probes(alloc: Global, stream: &mut DpSva, pairs: u32) -> Result<Vec<u64>, Fail> {
+    probes_when_found::<Brand, DpSva>(alloc, stream, pairs, Blank::new(1))
+}
+
+// Each line is a size of the first sides with one of the second sides. The numbers of one first side stand together,
+// and those that are left out were probed in vain.
+#[test]
+fn dpsva_probes_the_known_members_for_each_first_side(rt: HostRuntime) -> Result<(), Fail> {
+    let graph = graph(rt.alloc(), Shape::Clique, 4)?;
+    graph.recall();
+    let parts = Parts::make(rt.alloc(), &graph)?;
+    let skips = SkipParts::make(rt.alloc(), &parts)?;
+    let mut stream = DpSva::over(&graph, &skips);
+    let counts = first_probes(rt.alloc(), &mut stream, 26)?;
+    let want = [
+        1, 2, 3, 4, 5, 6, //
+        8, 9, 10, 12, 13, 15, 16, 18, 20, 22, 23, 25, //
+        29, 31, 34, 37, //
+        43, 46, 48,
+    ];
+    assert_eq!(rt; counts.as_slice(), want.as_slice());
+    assert_eq!(rt; stream.probes(), 53);
     Ok(())
 }
 
