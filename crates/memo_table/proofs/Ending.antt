@@ -16,7 +16,8 @@ use Rattle.connected_sets.specs.Lists.{sets_by_least}
 use Rattle.connected_sets.proofs.GrownLaws.{sets_has}
 use Rattle.join_tree.specs.Trees.{Made}
 use Rattle.join_tree.proofs.TreeLaws.{legal_connected, made_legal}
-use Rattle.memo_table.specs.Finishing.{IsLeastBound, IsCopied, AreCopiedBut, AreEmpty}
+use Rattle.memo_table.specs.Finishing.{IsLeastBound, AreCopiedBut, AreEmpty}
+use Rattle.memo_table.proofs.Copying.{IsCopied}
 use Rattle.dpe_base.proofs.Members.{contains_none}
 use Rattle.memo_table.proofs.Counting.{knowing}
 use Rattle.memo_table.proofs.Holding.{live_of, others_spent}

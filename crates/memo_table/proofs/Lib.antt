@@ -1,4 +1,5 @@
 pub mod Counting
+mod Copying
 mod MemoWords
 mod TreeWords
 mod Holding

@@ -19,13 +19,10 @@ pub record AreEmpty (n : ℕ) (row : List ℕ) : Type 0 where
   pub sized : length row ≡ 2 ^ n
   pub each : (s : ℕ) → s < length row → slice_index_or row s EMPTY ≡ EMPTY
 
--- the row has the word of the set s, before which the counter stands among the words
-abbrev pub IsCopied : List ℕ → List ℕ → ℕ → Type 0
-IsCopied words row s = get_elem? words (s + 1) ≡ some (slice_index_or row s EMPTY)
-
+-- the row has the word of each of its sets, before which the counter stands among the words
 abbrev pub AreCopied : List ℕ → List ℕ → Type 0
-AreCopied words row = (s : ℕ) → s < length row → IsCopied words row s
+AreCopied words row = (s : ℕ) → s < length row → get_elem? words (s + 1) ≡ some (slice_index_or row s EMPTY)
 
 -- the row has the words, maybe without those of the sets with P
 abbrev pub AreCopiedBut : (ℕ → Type 0) → List ℕ → List ℕ → Type 0
-AreCopiedBut P words row = (s : ℕ) → s < length row → IsCopied words row s ⊎ P s
+AreCopiedBut P words row = (s : ℕ) → s < length row → (get_elem? words (s + 1) ≡ some (slice_index_or row s EMPTY)) ⊎ P s

@@ -30,7 +30,16 @@ spent_view = record { query = no_space.query; pairs = []; bounds = []; floor = 0
 
 -- a bound more
 abbrev pub with_bound : View → ℕ → ℕ → View
-with_bound v s w = record { query = v.query; pairs = v.pairs; bounds = (s, w) ∷ v.bounds; floor = v.floor; tickets = v.tickets; weight = v.weight; allowance = v.allowance }
+with_bound v s w =
+    record {
+      query = v.query;
+      pairs = v.pairs;
+      bounds = (s, w) ∷ v.bounds;
+      floor = v.floor;
+      tickets = v.tickets;
+      weight = v.weight;
+      allowance = v.allowance;
+    }
 
 -- an offered word is a bound, unless it is EMPTY
 abbrev pub with_offer : View → ℕ → ℕ → View
@@ -38,7 +47,16 @@ with_offer v s w = if w == EMPTY then v else with_bound v s w
 
 -- a number more was drawn
 abbrev pub with_ticket : View → ℕ → View
-with_ticket v n = record { query = v.query; pairs = v.pairs; bounds = v.bounds; floor = v.floor; tickets = v.tickets ++ n ∷ []; weight = v.weight; allowance = v.allowance - 1 }
+with_ticket v n =
+    record {
+      query = v.query;
+      pairs = v.pairs;
+      bounds = v.bounds;
+      floor = v.floor;
+      tickets = v.tickets ++ n ∷ [];
+      weight = v.weight;
+      allowance = v.allowance - 1;
+    }
 
 -- the counter was seen at n
 abbrev pub with_floor : View → ℕ → View
@@ -46,7 +64,16 @@ with_floor v n = record { query = v.query; pairs = v.pairs; bounds = v.bounds; f
 
 -- what a seat keeps that gives away as many draws
 abbrev pub kept_part : ℕ → View → View
-kept_part draws v = record { query = v.query; pairs = v.pairs; bounds = v.bounds; floor = v.floor; tickets = v.tickets; weight = v.weight - 1; allowance = v.allowance - draws }
+kept_part draws v =
+    record {
+      query = v.query;
+      pairs = v.pairs;
+      bounds = v.bounds;
+      floor = v.floor;
+      tickets = v.tickets;
+      weight = v.weight - 1;
+      allowance = v.allowance - draws;
+    }
 
 -- and the new seat
 abbrev pub given_part : ℕ → View → View
@@ -54,4 +81,13 @@ given_part draws v = record { query = v.query; pairs = v.pairs; bounds = v.bound
 
 -- what two seats know together
 abbrev pub joined_view : View → View → View
-joined_view v w = record { query = v.query; pairs = v.pairs; bounds = v.bounds ++ w.bounds; floor = max v.floor w.floor; tickets = v.tickets ++ w.tickets; weight = v.weight + w.weight; allowance = v.allowance + w.allowance }
+joined_view v w =
+    record {
+      query = v.query;
+      pairs = v.pairs;
+      bounds = v.bounds ++ w.bounds;
+      floor = max v.floor w.floor;
+      tickets = v.tickets ++ w.tickets;
+      weight = v.weight + w.weight;
+      allowance = v.allowance + w.allowance;
+    }

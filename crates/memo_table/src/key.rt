@@ -59,14 +59,12 @@ pub(crate) fn key_of<P: PairStream>(
 // `N` says what the key is to name.
 fn key_by<P: PairStream, N: Named>(
     alloc: Global,
-    query: &Query,
-    stream: &P,
+    _query: &Query,
+    _stream: &P,
 ) -> Result<Key, AllocError>
-    requires { N.named ≡ space_of query.now (P.left stream.now) }
-    ensures { IfOk result (λ k. k.me.0 ≡ space_of query.now (P.left stream.now)) }
+    requires { N.named ≡ space_of _query.now (P.left _stream.now) }
+    ensures { IfOk result (λ k. k.me.0 ≡ space_of _query.now (P.left _stream.now)) }
 {
-    let _ = query;
-    let _ = stream;
     let (table, mut key) = Table::<(), TreeSpace, (), Free, Global>::of_words(alloc, &[0], &())?;
     table.shared.load::<Names<N>>(&mut key, 0);
     Ok(key)

@@ -40,7 +40,10 @@ impl<M: CostModel> Model for Memo<M> {
 
     ghost view = { λ m. record { table = m.table.shared.table_id; query = m.table.shared.key.me.0.query; pairs = m.table.shared.key.me.0.pairs } };
 
-    ghost invariant = { λ m. (m.table.shared.table_id.words ≡ 2 ^ relations m.table.shared.key.me.0.query + 1) × (m.table.shared.table_id.slots ≡ 0) × AreEmpty (relations m.table.shared.key.me.0.query) m.row.items × (m.graph ≡ graph_of m.table.shared.key.me.0.query) };
+    ghost invariant = { λ m. (m.table.shared.table_id.words ≡ 2 ^ relations m.table.shared.key.me.0.query + 1)
+        × (m.table.shared.table_id.slots ≡ 0)
+        × AreEmpty (relations m.table.shared.key.me.0.query) m.row.items
+        × (m.graph ≡ graph_of m.table.shared.key.me.0.query) };
 }
 
 // Where the word of the set stands. The counter stands before all of them.

@@ -23,17 +23,16 @@ impl<M: CostModel> Memo<M> {
         self.split_by::<Brand>(seat, draws)
     }
 
-    // `draws` is for the proof alone: it says which `D` a call means.
-    fn split_by<D: Given>(&self, seat: &mut MemoSeat<M>, draws: u64) -> MemoSeat<M>
+    // `_draws` is for the proof alone: it says which `D` a call means.
+    fn split_by<D: Given>(&self, seat: &mut MemoSeat<M>, _draws: u64) -> MemoSeat<M>
         requires seat { IsSeatOf self.now seat.old }
         requires weight { 2 ≤ seat.old.view.weight }
-        requires allowance { draws ≤ seat.old.view.allowance }
-        requires draws { draws ≡ D.draws }
+        requires allowance { _draws ≤ seat.old.view.allowance }
+        requires draws { _draws ≡ D.draws }
         ensures table { (seat.new.table ≡ seat.old.table) × (result.table ≡ seat.old.table) }
-        ensures old { seat.new.view ≡ kept_part draws seat.old.view }
-        ensures new { result.view ≡ given_part draws seat.old.view }
+        ensures old { seat.new.view ≡ kept_part _draws seat.old.view }
+        ensures new { result.view ≡ given_part _draws seat.old.view }
     {
-        let _ = draws;
         let part = split::<M, D>(&self.table.shared, &mut seat.seat);
         MemoSeat {
             seat: part,

@@ -19,7 +19,8 @@ pub(crate) fn load<M: CostModel>(
 ) -> u64
     requires table { seat.old.table_id ≡ words.now.table_id }
     requires place { place < words.now.table_id.words }
-    requires kept { Allows (Kept M.KIND words.now.key.me.0) words.now.table_id.slots seat.old.id seat.old.me place (λ n. n) (load_tells M.KIND (step words.now.table_id.slots place 0 0 none) seat.old.me) }
+    requires kept { Allows (Kept M.KIND words.now.key.me.0) words.now.table_id.slots seat.old.id seat.old.me place (λ n. n)
+        (load_tells M.KIND (step words.now.table_id.slots place 0 0 none) seat.old.me) }
     ensures table { seat.new.table_id ≡ seat.old.table_id }
     ensures told { load_tells M.KIND (step words.now.table_id.slots place 0 0 none) seat.old.me result seat.new.me }
 {
@@ -35,7 +36,8 @@ pub(crate) fn offer<M: CostModel>(
 )
     requires table { seat.old.table_id ≡ words.now.table_id }
     requires place { place < words.now.table_id.words }
-    requires kept { Allows (Kept M.KIND words.now.key.me.0) words.now.table_id.slots seat.old.id seat.old.me place (λ n. min n word) (offer_tells (step words.now.table_id.slots place word 0 none) seat.old.me) }
+    requires kept { Allows (Kept M.KIND words.now.key.me.0) words.now.table_id.slots seat.old.id seat.old.me place (λ n. min n word)
+        (offer_tells (step words.now.table_id.slots place word 0 none) seat.old.me) }
     ensures table { seat.new.table_id ≡ seat.old.table_id }
     ensures told { (n : ℕ) × offer_tells (step words.now.table_id.slots place word 0 none) seat.old.me n seat.new.me }
 {
@@ -46,7 +48,8 @@ pub(crate) fn offer<M: CostModel>(
 pub(crate) fn draw<M: CostModel>(words: &SharedWords<M>, seat: &mut Seat<(), View>) -> u64
     requires table { seat.old.table_id ≡ words.now.table_id }
     requires place { 0 < words.now.table_id.words }
-    requires kept { Allows (Kept M.KIND words.now.key.me.0) words.now.table_id.slots seat.old.id seat.old.me 0 (λ n. (n + 1) % 2 ^ 64) (draw_tells (step words.now.table_id.slots 0 1 0 none) seat.old.me) }
+    requires kept { Allows (Kept M.KIND words.now.key.me.0) words.now.table_id.slots seat.old.id seat.old.me 0 (λ n. (n + 1) % 2 ^ 64)
+        (draw_tells (step words.now.table_id.slots 0 1 0 none) seat.old.me) }
     ensures table { seat.new.table_id ≡ seat.old.table_id }
     ensures told { draw_tells (step words.now.table_id.slots 0 1 0 none) seat.old.me result seat.new.me }
 {
@@ -57,7 +60,8 @@ pub(crate) fn draw<M: CostModel>(words: &SharedWords<M>, seat: &mut Seat<(), Vie
 pub(crate) fn drawn<M: CostModel>(words: &SharedWords<M>, seat: &mut Seat<(), View>) -> u64
     requires table { seat.old.table_id ≡ words.now.table_id }
     requires place { 0 < words.now.table_id.words }
-    requires kept { Allows (Kept M.KIND words.now.key.me.0) words.now.table_id.slots seat.old.id seat.old.me 0 (λ n. n) (drawn_tells (step words.now.table_id.slots 0 0 0 none) seat.old.me) }
+    requires kept { Allows (Kept M.KIND words.now.key.me.0) words.now.table_id.slots seat.old.id seat.old.me 0 (λ n. n)
+        (drawn_tells (step words.now.table_id.slots 0 0 0 none) seat.old.me) }
     ensures table { seat.new.table_id ≡ seat.old.table_id }
     ensures told { drawn_tells (step words.now.table_id.slots 0 0 0 none) seat.old.me result seat.new.me }
 {

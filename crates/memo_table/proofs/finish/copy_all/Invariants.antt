@@ -1,6 +1,6 @@
 use Rattle.std.proofs.Common.{◌≡◌, ℕ, ◌<◌, length}
 use Rattle.std.specs.Mem.Slots.{slots_items}
-use Rattle.memo_table.specs.Finishing.{IsCopied}
+use Rattle.memo_table.proofs.Copying.{IsCopied}
 use Rattle.memo_table.proofs.finish.copy_all.Given as goal
 
 -- the words up to this place are copied
