@@ -1,10 +1,10 @@
 -- From group to group of a buffer.
-use Rattle.std.proofs.Common.{◌≡◌, ℕ, ◌+◌, ◌*◌, ◌^◌, ◌<◌, ◌≤◌, ◌⊎◌, inl, inr, ⊎_elim, List, [], ◌∷◌, ◌++◌, AllPairs, Contains, length, sym, ap, ◌∙◌, subst, arith, length-append, mul-le-mul_right, mul-add}
+use Rattle.std.proofs.Common.{◌≡◌, ℕ, ◌+◌, ◌*◌, ◌<◌, ◌≤◌, ◌⊎◌, inl, inr, ⊎_elim, List, [], ◌∷◌, ◌++◌, AllPairs, Contains, length, sym, ap, ◌∙◌, subst, arith, length-append, mul-le-mul_right, mul-add}
 use Rattle.std.proofs.lemmas.Bool.{cases_lt}
 use Rattle.std.proofs.lemmas.List.Elements.{All-contains, Contains-append_left, Contains-append_right, Contains-append_cases}
-use Rattle.dpe_base.specs.declared.TheConstants.{N_MAX, WORKERS_MAX}
+use Rattle.dpe_base.specs.declared.TheConstants.{WORKERS_MAX}
 use Rattle.dpe_base.specs.declared.pair.Pair.{Pair}
-use Rattle.dpe_base.specs.Queries.{JoinQuery, relations}
+use Rattle.dpe_base.specs.Queries.{relations}
 use Rattle.dpe_base.specs.Sets.{union, single, size}
 use Rattle.pair_stream.specs.Orders.{BuildsSide}
 use Rattle.pair_stream.proofs.Lists.{pairs_head, pairs_tail}
@@ -20,7 +20,7 @@ use Rattle.dpe_engine.specs.Working.{IsDone}
 use Rattle.dpe_engine.specs.Rounds.{MayWorkRound, HasWorkedRound}
 use Rattle.dpe_engine.specs.declared.run.shared.Shared.{Shared}
 use Rattle.dpe_engine.specs.Engines.{MayStandBefore}
-use Rattle.dpe_engine.specs.Between.{below, IsBetween, IsShared, AreLeft, IsToCome}
+use Rattle.dpe_engine.specs.Running.Between.{below, IsBetween, IsShared, AreLeft, IsToCome}
 use Rattle.dpe_engine.proofs.PairSteps.{stays_settled}
 use Rattle.dpe_engine.proofs.Bursts.{more_done}
 use Rattle.dpe_engine.proofs.Settles.{settles}

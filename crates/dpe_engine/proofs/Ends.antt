@@ -1,5 +1,5 @@
 -- The beginning and the end of a run: the first seat, and the words.
-use Rattle.std.proofs.Common.{◌≡◌, ◌≢◌, ℕ, zero, ◌+◌, ◌*◌, ◌<◌, ◌≤◌, ◌⊎◌, inl, inr, ⊎_elim, Bool, true, false, cond, ◌==◌, List, [], ◌∷◌, AllPairs, length, Contains, get_or, refl, sym, ap, ◌∙◌, subst, arith}
+use Rattle.std.proofs.Common.{◌≡◌, ℕ, zero, ◌+◌, ◌*◌, ◌<◌, ◌≤◌, inl, inr, ⊎_elim, Bool, true, false, cond, ◌==◌, List, [], ◌∷◌, AllPairs, length, Contains, get_or, refl, sym, ap, ◌∙◌, subst, arith}
 use Rattle.std.proofs.lemmas.Bool.Decides.{nat_tests}
 use Rattle.std.proofs.lemmas.List.{get_or_default}
 use Rattle.dpe_base.specs.declared.TheConstants.{EMPTY}
@@ -18,9 +18,8 @@ use Rattle.memo_table.specs.Views.{EachOnceBelow, once_below, with_floor, with_o
 use Rattle.memo_table.proofs.SeatLaws.{offer_if}
 use Rattle.dpe_engine.specs.declared.run.shared.Shared.{Shared}
 use Rattle.dpe_engine.specs.declared.engine.Solved.{Solved}
-use Rattle.dpe_engine.specs.Engines.{EnginePlan, SeededPlan, with_word, IsKnown, MayStandBefore, IsRest, HasProcessed, IsSolved, IsLeastWord}
-use Rattle.dpe_engine.specs.Between.{IsBetween, IsShared}
-use Rattle.dpe_engine.specs.Running.{plan_of}
+use Rattle.dpe_engine.specs.Engines.{EnginePlan, with_word, IsKnown, MayStandBefore, IsRest, HasProcessed, IsSolved, IsLeastWord}
+use Rattle.dpe_engine.specs.Running.Between.{IsBetween, IsShared}
 use Rattle.dpe_engine.proofs.PairSteps.{stays_settled}
 use Rattle.dpe_engine.proofs.Advances.{workable, built_is_settled}
 

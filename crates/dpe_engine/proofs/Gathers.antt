@@ -8,7 +8,7 @@ use Rattle.memo_table.specs.Seats.{MemoTable, SeatView, IsSeatOf}
 use Rattle.memo_table.specs.Views.{times, joined_view}
 use Rattle.memo_table.proofs.Counting.{times-append}
 use Rattle.dpe_engine.specs.Working.{past}
-use Rattle.dpe_engine.specs.Rounds.{weights, allowances, all_drawn, all_past, all_times, IsGathered, HasAmong}
+use Rattle.dpe_engine.specs.Rounds.Crews.{weights, allowances, all_drawn, all_past, all_times, IsGathered, HasAmong}
 use Rattle.dpe_engine.proofs.Tickets.{past-append}
 
 -- part of the crew is taken in, and these are left

@@ -1,13 +1,11 @@
 -- Groups and fronts of a list of pairs.
-use Rattle.std.proofs.Common.{◌≡◌, ℕ, ◌+◌, ◌≤◌, nat_lt, Bool, true, false, cond, List, [], ◌∷◌, ◌++◌, length, take, refl, sym, ap, ◌∙◌, arith, length-append, append_assoc}
+use Rattle.std.proofs.Common.{◌≡◌, ℕ, ◌+◌, ◌≤◌, nat_lt, Bool, true, false, cond, List, [], ◌∷◌, length, refl, ap, arith, length-append}
 use Rattle.std.proofs.lemmas.Bool.Decides.{nat_tests}
-use Rattle.std.proofs.Math.Seq.{take-append_seam}
-use Rattle.std.proofs.lemmas.List.{length-take-le}
 use Rattle.dpe_base.specs.declared.pair.Pair.{Pair}
 use Rattle.dpe_base.specs.Sets.{union, size}
 use Rattle.reorder_buffer.specs.Groups.{union_size, group_of, groups_below}
 use Rattle.reorder_buffer.proofs.Weights.{groups_below-suc}
-use Rattle.dpe_engine.specs.Between.{below}
+use Rattle.dpe_engine.specs.Running.Between.{below}
 
 pub union_size_is : (p : Pair) → union_size p ≡ size (union p.a p.b)
 unfolding union_size

@@ -1,11 +1,11 @@
 -- How many pairs a list can have, and those of smaller unions.
-use Rattle.std.proofs.Common.{◌≡◌, ◌≢◌, ◌↔◌, ℕ, ◌+◌, ◌*◌, ◌/◌, ◌%◌, ◌^◌, ◌<◌, ◌≤◌, ◌==◌, inl, inr, nat_lt, Bool, true, false, cond, List, [], ◌∷◌, ◌++◌, All, AllPairs, Contains, map, length, get_or, eqb, refl, sym, subst, ap, ◌∙◌, arith, zero-add, add-mul, mul-le-mul, mul-le-mul_right, eq-eqb, eqb-true}
+use Rattle.std.proofs.Common.{◌≡◌, ◌≢◌, ◌↔◌, ℕ, ◌+◌, ◌*◌, ◌/◌, ◌%◌, ◌^◌, ◌<◌, ◌≤◌, ◌==◌, inl, inr, nat_lt, Bool, true, false, cond, List, [], ◌∷◌, ◌++◌, All, AllPairs, Contains, map, length, eqb, refl, sym, subst, ap, ◌∙◌, arith, zero-add, add-mul, mul-le-mul, mul-le-mul_right, eq-eqb, eqb-true}
 use Rattle.std.specs.List.{list_any}
 use Rattle.std.proofs.lemmas.Bool.{cases_lt, lt-ltb}
 use Rattle.std.proofs.lemmas.Bool.Decides.{nat_tests, Decides-eqb}
 use Rattle.std.proofs.lemmas.Nat.{mul-pow, div-mul-add, mod-mul-add}
 use Rattle.std.proofs.Math.Pow.{pow_mono}
-use Rattle.std.proofs.lemmas.List.{length-map, get_or_append_left}
+use Rattle.std.proofs.lemmas.List.{length-map}
 use Rattle.std.proofs.lemmas.List.Elements.{All-head, All-tail, Contains-append_left, Contains-append_right, Contains-append_cases}
 use Rattle.std.proofs.lemmas.Map.Made.{IsDistinct-from_AllPairs}
 use Rattle.std.proofs.lemmas.Map.Views.{Contains-from_any}
@@ -16,12 +16,11 @@ use Rattle.dpe_base.specs.Queries.{JoinQuery, relations, IsQuery}
 use Rattle.dpe_base.proofs.SizeLaws.{full_below}
 use Rattle.join_graph.specs.Graphs.{Pairs, graph_of}
 use Rattle.pair_stream.specs.Orders.{Once}
-use Rattle.dpe_base.proofs.Members.{contains_none, contains_cases}
 use Rattle.pair_stream.proofs.Lists.{contains_filter, contains_from_filter, passes_from_filter, contains_from_map, pairs_map}
 use Rattle.reorder_buffer.specs.declared.TheConstants.{SIZES}
 use Rattle.reorder_buffer.specs.Groups.{union_size, group_of}
 use Rattle.reorder_buffer.specs.Buffers.{AreSmall}
-use Rattle.dpe_engine.specs.Between.{below}
+use Rattle.dpe_engine.specs.Running.Between.{below}
 
 -- ---- how many pairs
 

@@ -8,7 +8,8 @@ use Rattle.memo_table.specs.declared.view.View.{View}
 use Rattle.memo_table.specs.Seats.{MemoTable, SeatView, BoundsAreMade}
 use Rattle.memo_table.specs.Views.{times, EachOnceBelow, with_floor}
 use Rattle.dpe_engine.specs.Working.{past, IsDone}
-use Rattle.dpe_engine.specs.Rounds.{IsWorkerSeat, IsSplit, IsGathered, HaveWorked, MayWorkRound, HasOpenedRound, HasWorkedRound}
+use Rattle.dpe_engine.specs.Rounds.{MayWorkRound, HasOpenedRound, HasWorkedRound}
+use Rattle.dpe_engine.specs.Rounds.Crews.{IsWorkerSeat, IsSplit, IsGathered, HaveWorked}
 use Rattle.dpe_engine.proofs.Tickets.{past_is, once_in, once_out, sum_fixed, sum_both, some_positive}
 use Rattle.dpe_engine.proofs.Bursts.{more_done}
 

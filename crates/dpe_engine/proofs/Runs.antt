@@ -20,8 +20,9 @@ use Rattle.dpe_engine.specs.declared.run.producer.Producer.{Producer}
 use Rattle.dpe_engine.specs.declared.run.consumer.Consumer.{Consumer}
 use Rattle.dpe_engine.specs.declared.engine.Solved.{Solved}
 use Rattle.dpe_engine.specs.Engines.{EnginePlan, with_word, IsKnown, MayStandBefore, IsRest, AreLeastWords, HasProcessed}
-use Rattle.dpe_engine.specs.Between.{IsBetween, AreLeft}
-use Rattle.dpe_engine.specs.Running.{plan_of, IsPrepared, HasBegun, HasWorkedBuffer, IsFilled, IsRunning, HasCounted, HasSameTotals, HasEnded, IsFinished}
+use Rattle.dpe_engine.specs.Running.Between.{IsBetween, AreLeft}
+use Rattle.dpe_engine.specs.Running.{plan_of, IsPrepared, HasBegun, IsRunning, HasCounted, HasSameTotals, HasEnded, IsFinished}
+use Rattle.dpe_engine.specs.Running.Buffers.{HasWorkedBuffer, IsFilled}
 use Rattle.dpe_engine.proofs.Places.{few_pairs, few_in_all}
 use Rattle.dpe_engine.proofs.Advances.{between_more, later_left}
 use Rattle.dpe_engine.proofs.Ends.{known_settled, offered_words, between_first}

@@ -1,11 +1,11 @@
 -- Where all pairs of a set are done, the bounds hold its least word.
-use Rattle.std.proofs.Common.{◌≡◌, ℕ, ◌≤◌, ◌<◌, Contains, sym, subst, arith, ⊎_elim}
+use Rattle.std.proofs.Common.{◌≡◌, ℕ, ◌≤◌, Contains, subst, arith, ⊎_elim}
 use Rattle.dpe_base.specs.declared.TheConstants.{EMPTY}
 use Rattle.dpe_base.specs.declared.pair.Pair.{Pair}
-use Rattle.dpe_base.specs.Queries.{relations, IsQuery}
-use Rattle.dpe_base.specs.Sets.{union, single}
+use Rattle.dpe_base.specs.Queries.{IsQuery}
+use Rattle.dpe_base.specs.Sets.{union}
 use Rattle.join_tree.specs.Trees.{Made}
-use Rattle.join_tree.specs.BuiltLists.{IsBuilt, HasBestPair, IsWorkable}
+use Rattle.join_tree.specs.BuiltLists.{HasBestPair}
 use Rattle.join_tree.proofs.BestLaws.{empty_never_made}
 use Rattle.memo_table.specs.declared.view.View.{View}
 use Rattle.memo_table.specs.Seats.{BoundsAreMade, Settled}

@@ -6,7 +6,8 @@ use Rattle.memo_table.specs.declared.view.View.{View}
 use Rattle.memo_table.specs.Seats.{MemoTable, SeatView, IsSeatOf}
 use Rattle.memo_table.specs.Views.{kept_part, given_part}
 use Rattle.dpe_engine.specs.Working.{AreWorkable, IsReady}
-use Rattle.dpe_engine.specs.Rounds.{AreReady, IsWorkerSeat, IsSplit, MayWorkRound}
+use Rattle.dpe_engine.specs.Rounds.{MayWorkRound}
+use Rattle.dpe_engine.specs.Rounds.Crews.{AreReady, IsWorkerSeat, IsSplit}
 use Rattle.dpe_engine.proofs.PairSteps.{stays_settled}
 
 pub split_begins : (memo : MemoTable) (before : SeatView) (draws : ℕ) → IsSeatOf memo before → IsSplit memo before before [] 0 draws

@@ -1,18 +1,20 @@
 -- How far a run is, from buffer to buffer.
-use Rattle.std.specs.Prelude.{◌≡◌, ℕ, ◌+◌, ◌*◌, ◌^◌, ◌<◌, ◌≤◌, ◌⊎◌, min, Bool, IsTrue, List, [], ◌++◌, length, Contains}
+pub mod Between
+pub mod Buffers
+use Rattle.std.specs.Prelude.{◌≡◌, ℕ, ◌+◌, ◌*◌, ◌^◌, ◌<◌, ◌≤◌, ◌⊎◌, Bool, IsTrue, List, [], ◌++◌, length}
 use Rattle.dpe_base.specs.declared.TheConstants.{WEIGHT, DRAWS}
 use Rattle.dpe_base.specs.declared.pair.Pair.{Pair}
 use Rattle.dpe_base.specs.Queries.{relations}
 use Rattle.dpe_base.specs.Sets.{single}
 use Rattle.memo_table.specs.Seats.{IsSeatOf, Settled}
 use Rattle.reorder_buffer.specs.Buffers.{BufferedPairs}
-use Rattle.reorder_buffer.specs.Groups.{groups, runs, rounds}
+use Rattle.reorder_buffer.specs.Groups.{runs, rounds}
 use Rattle.dpe_engine.specs.declared.run.shared.Shared.{Shared}
 use Rattle.dpe_engine.specs.declared.run.producer.Producer.{Producer}
 use Rattle.dpe_engine.specs.declared.run.consumer.Consumer.{Consumer}
 use Rattle.dpe_engine.specs.declared.engine.Solved.{Solved}
 use Rattle.dpe_engine.specs.Engines.{EnginePlan, AreLeastWords}
-use Rattle.dpe_engine.specs.Between.{IsShared, IsBetween, HasFreeCrew, IsAtBuffer}
+use Rattle.dpe_engine.specs.Running.Between.{IsShared, IsBetween, HasFreeCrew, IsAtBuffer}
 
 -- the query, its list, and what was asked for
 abbrev pub plan_of : {M : Type 0} → Shared M → ℕ → EnginePlan
@@ -42,30 +44,6 @@ pub record HasBegun {M : Type 0} (plan : EnginePlan) (rest : List Pair) (shared 
   pub none : (consumer.pairs ≡ 0) × (consumer.buffers ≡ 0) × (consumer.rounds ≡ 0)
   pub whole : coming ≡ rest
   pub same_runs : runs plan.buffer rest ≡ runs consumer.full.room rest
-
--- what is asked to process the buffer
-pub record MayWorkBuffer {M : Type 0} (model : ℕ) (shared : Shared M) (consumer : Consumer M) : Type 0 where
-  pub plan : IsShared shared
-  pub free : HasFreeCrew shared consumer
-  pub few : consumer.buffers ≤ consumer.pairs
-  pub later : List Pair
-  pub at : IsAtBuffer model shared consumer later
-
--- the pairs of the buffer are processed, by a round for each group
-pub record HasWorkedBuffer {M : Type 0} (model : ℕ) (shared : Shared M) (before after : Consumer M) : Type 0 where
-  pub between : (later : List Pair) → IsAtBuffer model shared before later → IsBetween model shared (Contains later) after.pairs after.rounds after.seat
-  pub counted : after.rounds ≡ before.rounds + length (groups before.full.pairs)
-  pub pairs : after.pairs ≡ before.pairs + length before.full.pairs
-  pub buffers : after.buffers ≡ before.buffers + min (length before.full.pairs) 1
-  pub room : after.full.room ≡ before.full.room
-  pub free : HasFreeCrew shared after
-
--- the buffer has the next run
-pub record IsFilled {P : Type 0} (left : P → List Pair) (ended : P → Bool) (before after : Producer P) : Type 0 where
-  pub room : after.next.room ≡ before.next.room
-  pub fits : length after.next.pairs ≤ after.next.room
-  pub taken : left before.stream ≡ after.next.pairs ++ left after.stream
-  pub short : length after.next.pairs < before.next.room → (left after.stream ≡ []) × IsTrue (ended after.stream)
 
 -- the pairs that are still to be processed
 abbrev pub to_come : {P M : Type 0} → (P → List Pair) → Producer P → Consumer M → List Pair

@@ -3,7 +3,8 @@ ghost use Rattle.std.specs.Prelude.{◌≡◌, ◌≤◌, ◌<◌, ℕ, [], List
 ghost use Rattle.dpe_base.specs.declared.pair.Pair.{Pair};
 ghost use Rattle.memo_table.specs.Seats.{SeatView, IsSeatOf};
 ghost use Rattle.dpe_engine.specs.Working.{IsMemoOfQuery, IsReady, HasWorked};
-ghost use Rattle.dpe_engine.specs.Rounds.{MayWorkRound, HasOpenedRound, HaveWorked, HasWorkedRound};
+ghost use Rattle.dpe_engine.specs.Rounds.{MayWorkRound, HasOpenedRound, HasWorkedRound};
+ghost use Rattle.dpe_engine.specs.Rounds.Crews.{HaveWorked};
 
 mod crew;
 

@@ -61,5 +61,6 @@ impl<P: PairStream> PairStream for Touching<P> {
         self.pairs.probes()
     }
 
-    ghost at_end = { λ s t. ended_filter (touches s.pairs.test.r) (P.left s.pairs.inner) (P.probed s.pairs.inner) (P.total s.pairs.inner) (P.at_end s.pairs.inner t) };
+    ghost at_end = { λ s t. ended_filter (touches s.pairs.test.r) (P.left s.pairs.inner) (P.probed s.pairs.inner) (P.total s.pairs.inner)
+        (P.at_end s.pairs.inner t) };
 }

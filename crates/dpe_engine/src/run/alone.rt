@@ -3,9 +3,10 @@ ghost use Rattle.std.specs.Prelude.{◌≡◌, ◌+◌, ◌<◌, ◌≤◌, IsTr
 ghost use Rattle.dpe_base.specs.declared.pair.Pair.{Pair};
 ghost use Rattle.reorder_buffer.specs.Groups.{groups_below};
 ghost use Rattle.dpe_engine.specs.Working.{IsMemoOfQuery, IsReady, HasWorked};
-ghost use Rattle.dpe_engine.specs.Rounds.{AreReady, HaveWorked};
-ghost use Rattle.dpe_engine.specs.Between.{HasFreeCrew, IsAtGroup, MayWorkGroup, IsSameBuffer};
-ghost use Rattle.dpe_engine.specs.Running.{MayWorkBuffer, HasWorkedBuffer, IsRunning, HasCounted, HasSameTotals, HasEnded, to_come};
+ghost use Rattle.dpe_engine.specs.Rounds.Crews.{AreReady, HaveWorked};
+ghost use Rattle.dpe_engine.specs.Running.Between.{HasFreeCrew, IsAtGroup, MayWorkGroup, IsSameBuffer};
+ghost use Rattle.dpe_engine.specs.Running.{IsRunning, HasCounted, HasSameTotals, HasEnded, to_come};
+ghost use Rattle.dpe_engine.specs.Running.Buffers.{MayWorkBuffer, HasWorkedBuffer};
 
 use crate::gate::Gate;
 use crate::run::consumer::Consumer;
@@ -63,9 +64,11 @@ fn work_group<M: CostModel, G: Gate>(
 )
     requires size { size < SIZES }
     requires may { MayWorkGroup M.KIND shared.now size consumer.old }
-    ensures at { (later : List Pair) → IsAtGroup M.KIND shared.now size consumer.old later → IsAtGroup M.KIND shared.now (size + 1) consumer.new later }
+    ensures at { (later : List Pair) → IsAtGroup M.KIND shared.now size consumer.old later
+        → IsAtGroup M.KIND shared.now (size + 1) consumer.new later }
     ensures free { HasFreeCrew shared.now consumer.new }
-    ensures counted { consumer.new.rounds + length (groups_below size consumer.old.full.pairs) ≡ consumer.old.rounds + length (groups_below (size + 1) consumer.old.full.pairs) }
+    ensures counted { consumer.new.rounds + length (groups_below size consumer.old.full.pairs)
+        ≡ consumer.old.rounds + length (groups_below (size + 1) consumer.old.full.pairs) }
     ensures same { IsSameBuffer consumer.old consumer.new }
 {
     if consumer.full.count(size) == 0 {

@@ -3,8 +3,8 @@ ghost use Rattle.std.specs.Prelude.{◌≡◌, ◌+◌, ◌<◌, List, length};
 ghost use Rattle.dpe_base.specs.declared.pair.Pair.{Pair};
 ghost use Rattle.reorder_buffer.specs.Groups.{groups_below};
 ghost use Rattle.dpe_engine.specs.Working.{IsMemoOfQuery, IsReady, HasWorked};
-ghost use Rattle.dpe_engine.specs.Between.{HasFreeCrew, IsAtGroup, MayWorkGroup, IsSameBuffer};
-ghost use Rattle.dpe_engine.specs.Running.{MayWorkBuffer, HasWorkedBuffer};
+ghost use Rattle.dpe_engine.specs.Running.Between.{HasFreeCrew, IsAtGroup, MayWorkGroup, IsSameBuffer};
+ghost use Rattle.dpe_engine.specs.Running.Buffers.{MayWorkBuffer, HasWorkedBuffer};
 
 use crate::gate::Gate;
 use crate::run::shared::Shared;
@@ -41,9 +41,11 @@ impl<M: CostModel> Consumer<M> {
     )
         requires size { size < SIZES }
         requires may { MayWorkGroup M.KIND shared.now size self.old }
-        ensures at { (later : List Pair) → IsAtGroup M.KIND shared.now size self.old later → IsAtGroup M.KIND shared.now (size + 1) self.new later }
+        ensures at { (later : List Pair) → IsAtGroup M.KIND shared.now size self.old later
+            → IsAtGroup M.KIND shared.now (size + 1) self.new later }
         ensures free { HasFreeCrew shared.now self.new }
-        ensures counted { self.new.rounds + length (groups_below size self.old.full.pairs) ≡ self.old.rounds + length (groups_below (size + 1) self.old.full.pairs) }
+        ensures counted { self.new.rounds + length (groups_below size self.old.full.pairs)
+            ≡ self.old.rounds + length (groups_below (size + 1) self.old.full.pairs) }
         ensures same { IsSameBuffer self.old self.new }
     {
         if self.full.count(size) == 0 {

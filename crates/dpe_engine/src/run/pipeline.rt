@@ -1,6 +1,7 @@
 //! From buffer to buffer: one is processed, and the next one filled.
 ghost use Rattle.std.specs.Prelude.{◌≡◌, ◌+◌, ◌<◌, IsTrue, length};
-ghost use Rattle.dpe_engine.specs.Running.{MayWorkBuffer, HasWorkedBuffer, IsFilled, IsRunning, HasCounted, HasSameTotals, HasEnded, to_come};
+ghost use Rattle.dpe_engine.specs.Running.{IsRunning, HasCounted, HasSameTotals, HasEnded, to_come};
+ghost use Rattle.dpe_engine.specs.Running.Buffers.{MayWorkBuffer, HasWorkedBuffer, IsFilled};
 
 use crate::gate::Gate;
 use crate::run::consumer::Consumer;

@@ -1,6 +1,6 @@
 //! What fills buffers.
 ghost use Rattle.std.specs.Prelude.{◌≡◌};
-ghost use Rattle.dpe_engine.specs.Running.{IsFilled};
+ghost use Rattle.dpe_engine.specs.Running.Buffers.{IsFilled};
 
 use crate::gate::Gate;
 use pair_stream::PairStream;

@@ -14,36 +14,53 @@ use std::alloc::Global;
 use std::test::Fail;
 use std::thread::Threads;
 
-// Whether all workers meet in the first group of a run over a clique of ten, which fills buffers of so many pairs: the group
-// has threads, small as it is.
+// A clique of ten fills a buffer of 4,096 pairs, and one of eleven the largest buffer. Relations, and pairs.
+const CLIQUE_OF_TEN: (u8, u64) = (10, 28_501);
+
+const CLIQUE_OF_ELEVEN: (u8, u64) = (11, 86_526);
+
+// Whether all workers meet in the first group of a run over a clique that fills buffers of so many pairs: the group has
+// threads, small as it is.
 fn meets_at_first<R: Threads + Sync>(
     rt: &R,
     alloc: Global,
+    clique: (u8, u64),
     buffer: u32,
     workers: u32,
 ) -> Result<bool, Fail>
     requires buffer { (1 ≤ buffer) × (buffer ≤ BUFFER_MAX) }
     requires workers { (1 ≤ workers) × (workers ≤ WORKERS_MAX) }
 {
-    let query = query_of_ones(alloc, Shape::Clique, 10)?;
+    let (relations, pairs) = clique;
+    let query = query_of_ones(alloc, Shape::Clique, relations)?;
     let gate = Meeting::of_workers(alloc, workers, 0)?;
     let solved = solve_by_dpccp(rt, alloc, &query, buffer, workers, &gate)?;
-    Ok(gate.took_place() && solved.pairs == 28_501)
+    Ok(gate.took_place() && solved.pairs == pairs)
 }
 
 #[test]
 fn all_workers_meet_in_the_first_group(rt: HostRuntime) -> Result<(), Fail> {
     for workers in [2, 3, 4, WORKERS_MAX] {
-        assert!(rt; meets_at_first(&rt, rt.alloc(), 32, workers)?);
-        assert!(rt; meets_at_first(&rt, rt.alloc(), 4_096, workers)?);
+        assert!(rt; meets_at_first(&rt, rt.alloc(), CLIQUE_OF_TEN, 32, workers)?);
+        assert!(rt; meets_at_first(&rt, rt.alloc(), CLIQUE_OF_TEN, 1_000, workers)?);
+        assert!(rt; meets_at_first(&rt, rt.alloc(), CLIQUE_OF_TEN, 4_096, workers)?);
     }
     Ok(())
 }
 
-// Whether the groups of a run over a clique of ten have no threads from this ticket on.
+#[test]
+fn all_workers_meet_in_the_first_group_of_the_largest_buffer(rt: HostRuntime) -> Result<(), Fail> {
+    for workers in [2, 3, 4, WORKERS_MAX] {
+        assert!(rt; meets_at_first(&rt, rt.alloc(), CLIQUE_OF_ELEVEN, BUFFER_MAX, workers)?);
+    }
+    Ok(())
+}
+
+// Whether the group of this ticket has one thread, in a run over a clique.
 fn has_one_thread<R: Threads + Sync>(
     rt: &R,
     alloc: Global,
+    clique: (u8, u64),
     buffer: u32,
     workers: u32,
     first: u64,
@@ -51,44 +68,79 @@ fn has_one_thread<R: Threads + Sync>(
     requires buffer { (1 ≤ buffer) × (buffer ≤ BUFFER_MAX) }
     requires workers { (1 ≤ workers) × (workers ≤ WORKERS_MAX) }
 {
-    let query = query_of_ones(alloc, Shape::Clique, 10)?;
+    let (relations, pairs) = clique;
+    let query = query_of_ones(alloc, Shape::Clique, relations)?;
     let watch = Watch::from(first);
-    solve_by_dpccp(rt, alloc, &query, buffer, workers, &watch)?;
-    Ok(watch.saw_one_thread())
+    let solved = solve_by_dpccp(rt, alloc, &query, buffer, workers, &watch)?;
+    Ok(watch.saw_one_thread() && solved.pairs == pairs)
 }
 
 // The first group of a run has none where a buffer holds fewer than 32 pairs, or isn't filled; later groups of fewer than
-// 16,384 pairs have none: the tickets from 2,000 on are those of later buffers of 1,000 pairs.
+// 16,384 pairs have none: so many tickets are drawn before the second buffer or later that it is of a later group.
 #[test]
 fn other_groups_have_no_threads(rt: HostRuntime) -> Result<(), Fail> {
     for workers in [1, 2, 3, 4, WORKERS_MAX] {
-        assert!(rt; has_one_thread(&rt, rt.alloc(), 31, workers, 0)?);
-        assert!(rt; has_one_thread(&rt, rt.alloc(), BUFFER_MAX, workers, 0)?);
-        assert!(rt; has_one_thread(&rt, rt.alloc(), 1_000, workers, 2_000)?);
+        assert!(rt; has_one_thread(&rt, rt.alloc(), CLIQUE_OF_TEN, 31, workers, 0)?);
+        assert!(rt; has_one_thread(&rt, rt.alloc(), CLIQUE_OF_TEN, BUFFER_MAX, workers, 0)?);
+        assert!(rt; has_one_thread(&rt, rt.alloc(), CLIQUE_OF_TEN, 1_000, workers, 2_000)?);
+        assert!(rt; has_one_thread(&rt, rt.alloc(), CLIQUE_OF_TEN, 4_096, workers, 5_000)?);
+        assert!(rt;
+            has_one_thread(
+                &rt,
+                rt.alloc(),
+                CLIQUE_OF_ELEVEN,
+                BUFFER_MAX,
+                workers,
+                67_000
+            )?
+        );
     }
     Ok(())
 }
 
-// Whether a draw of the first buffer meets the filling of the second, and one of a later buffer of one pair the filling of
-// the next: each of ten such buffers has one round, which draws a ticket more than there are workers.
-fn meets_the_filling<R: Threads + Sync>(rt: &R, alloc: Global, workers: u32) -> Result<bool, Fail>
+// Whether a draw of the first buffer meets the filling of the second, in a run over a clique that fills the first.
+fn meets_the_second_filling<R: Threads + Sync>(
+    rt: &R,
+    alloc: Global,
+    clique: (u8, u64),
+    buffer: u32,
+    workers: u32,
+) -> Result<bool, Fail>
+    requires buffer { (1 ≤ buffer) × (buffer ≤ BUFFER_MAX) }
+    requires workers { (1 ≤ workers) × (workers ≤ WORKERS_MAX) }
+{
+    let (relations, pairs) = clique;
+    let query = query_of_ones(alloc, Shape::Clique, relations)?;
+    let gate = Meeting::with_filling(alloc, 0, 1)?;
+    let solved = solve_by_dpccp(rt, alloc, &query, buffer, workers, &gate)?;
+    Ok(gate.took_place() && solved.pairs == pairs)
+}
+
+// Whether a draw of a later buffer of one pair meets the filling of the next: each of ten such buffers has one round, which
+// draws a ticket more than there are workers.
+fn meets_a_later_filling<R: Threads + Sync>(
+    rt: &R,
+    alloc: Global,
+    workers: u32,
+) -> Result<bool, Fail>
     requires { (1 ≤ workers) × (workers ≤ WORKERS_MAX) }
 {
-    let clique = query_of_ones(alloc, Shape::Clique, 10)?;
-    let first = Meeting::with_filling(alloc, 0, 1)?;
-    solve_by_dpccp(rt, alloc, &clique, 1_000, workers, &first)?;
-    let chain = query_of_ones(alloc, Shape::Chain, 4)?;
-    let later = Meeting::with_filling(alloc, 2 * (workers as u64 + 1), 3)?;
-    solve_by_dpccp(rt, alloc, &chain, 1, workers, &later)?;
-    Ok(first.took_place() && later.took_place())
+    let query = query_of_ones(alloc, Shape::Chain, 4)?;
+    let gate = Meeting::with_filling(alloc, 2 * (workers as u64 + 1), 3)?;
+    solve_by_dpccp(rt, alloc, &query, 1, workers, &gate)?;
+    Ok(gate.took_place())
 }
 
 #[test]
 fn each_buffer_is_filled_beside_the_work(rt: HostRuntime) -> Result<(), Fail> {
-    assert!(rt; meets_the_filling(&rt, rt.alloc(), 2)?);
-    assert!(rt; meets_the_filling(&rt, rt.alloc(), 3)?);
-    assert!(rt; meets_the_filling(&rt, rt.alloc(), 4)?);
-    assert!(rt; meets_the_filling(&rt, rt.alloc(), WORKERS_MAX)?);
+    for workers in [2, 3, 4, WORKERS_MAX] {
+        assert!(rt; meets_a_later_filling(&rt, rt.alloc(), workers)?);
+        assert!(rt; meets_the_second_filling(&rt, rt.alloc(), CLIQUE_OF_TEN, 1_000, workers)?);
+        assert!(rt; meets_the_second_filling(&rt, rt.alloc(), CLIQUE_OF_TEN, 4_096, workers)?);
+        assert!(rt;
+            meets_the_second_filling(&rt, rt.alloc(), CLIQUE_OF_ELEVEN, BUFFER_MAX, workers)?
+        );
+    }
     Ok(())
 }
 

@@ -1,6 +1,6 @@
 //! Rounds by the public call: every worker has a thread of its own, whatever the group's size.
 ghost use Rattle.std.specs.Prelude.{◌≡◌, ◌≤◌, ◌<◌, ◌+◌, IfOk};
-ghost use Rattle.dpe_engine.specs.Between.{MayWorkGroup};
+ghost use Rattle.dpe_engine.specs.Running.Between.{MayWorkGroup};
 
 use super::fixtures::{CHAIN_OF_FOUR, Meeting, Shape, query_of_ones};
 use crate::run::consumer::Consumer;

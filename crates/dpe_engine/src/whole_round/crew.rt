@@ -1,7 +1,7 @@
 //! The seats of a round: one for each worker.
 ghost use Rattle.std.specs.Prelude.{◌≡◌, ◌+◌, ◌*◌, ◌≤◌, [], All, vec_capacity};
 ghost use Rattle.memo_table.specs.Seats.{IsSeatOf};
-ghost use Rattle.dpe_engine.specs.Rounds.{IsSplit, IsGathered};
+ghost use Rattle.dpe_engine.specs.Rounds.Crews.{IsSplit, IsGathered};
 
 use cost_model::CostModel;
 use memo_table::{Memo, MemoSeat};

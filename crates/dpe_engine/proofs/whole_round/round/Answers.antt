@@ -1,7 +1,7 @@
 use Rattle.std.proofs.Common.{rules, List, sym, ◌∙◌, subst}
 use Rattle.std.proofs.lemmas.List.{take_at}
 use Rattle.memo_table.specs.Seats.{SeatView}
-use Rattle.dpe_engine.specs.Rounds.{HaveWorked}
+use Rattle.dpe_engine.specs.Rounds.Crews.{HaveWorked}
 use Rattle.dpe_engine.proofs.whole_round.round.Goals as goal
 
 pub returns-clause-worked : goal.returns-clause-worked

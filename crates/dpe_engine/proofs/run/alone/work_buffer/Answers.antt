@@ -1,8 +1,8 @@
-use Rattle.std.proofs.Common.{arith, ◌≡◌, ◌+◌, ◌++◌, ℕ, List, Contains, min, length, refl, sym, ap, ◌∙◌, subst}
+use Rattle.std.proofs.Common.{arith, ◌≡◌, ◌+◌, ℕ, List, Contains, min, length, refl, ap, ◌∙◌, subst}
 use Rattle.dpe_base.specs.declared.pair.Pair.{Pair}
 use Rattle.reorder_buffer.specs.declared.TheConstants.{SIZES}
 use Rattle.reorder_buffer.specs.Groups.{groups_below}
-use Rattle.dpe_engine.specs.Between.{below, IsBetween, IsToCome, IsAtGroup}
+use Rattle.dpe_engine.specs.Running.Between.{below, IsBetween, IsToCome}
 use Rattle.dpe_engine.proofs.Advances.{buffer_done, begins_buffer, none_counted, counted_on}
 use Rattle.dpe_engine.proofs.run.alone.work_buffer.Goals as goal
 

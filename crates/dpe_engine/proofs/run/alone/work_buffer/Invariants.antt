@@ -1,7 +1,7 @@
 use Rattle.std.proofs.Common.{◌≡◌, ◌+◌, List, length}
 use Rattle.dpe_base.specs.declared.pair.Pair.{Pair}
 use Rattle.reorder_buffer.specs.Groups.{groups_below}
-use Rattle.dpe_engine.specs.Between.{IsAtBuffer, IsAtGroup, MayWorkGroup, IsSameBuffer}
+use Rattle.dpe_engine.specs.Running.Between.{IsAtBuffer, IsAtGroup, MayWorkGroup, IsSameBuffer}
 use Rattle.dpe_engine.proofs.run.alone.work_buffer.Given as goal
 
 abbrev pub invariant-sizes : goal.invariant-sizes

@@ -1,4 +1,4 @@
-use Rattle.std.proofs.Common.{◌≡◌, ℕ, List, sym, subst}
+use Rattle.std.proofs.Common.{◌≡◌, subst}
 use Rattle.dpe_engine.specs.Engines.{SeededPlan, with_word}
 use Rattle.dpe_engine.proofs.Runs.{prepared_still, offered_in}
 use Rattle.dpe_engine.proofs.seeded.SeededEngine.offer.Goals as goal

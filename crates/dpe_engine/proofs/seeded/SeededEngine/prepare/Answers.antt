@@ -1,7 +1,5 @@
-use Rattle.std.proofs.Common.{rules, sym, ap, ◌∙◌}
-use Rattle.dpe_base.specs.Queries.{relations}
-use Rattle.dpe_engine.specs.Between.{IsShared}
-use Rattle.dpe_engine.proofs.Ends.{shared_of, leaves_of, settled_known}
+use Rattle.std.proofs.Common.{rules}
+use Rattle.dpe_engine.proofs.Ends.{shared_of, leaves_of}
 use Rattle.dpe_engine.proofs.seeded.SeededEngine.prepare.Goals as goal
 
 pub make-requires-after_bounds : goal.make-requires-after_bounds

@@ -1,4 +1,4 @@
-use Rattle.dpe_engine.specs.Between.{MayWorkGroup}
+use Rattle.dpe_engine.specs.Running.Between.{MayWorkGroup}
 use Rattle.dpe_engine.proofs.tests.rounds.meets_in_each_round.Given as goal
 
 abbrev pub invariant-sizes : goal.invariant-sizes

@@ -1,6 +1,6 @@
 use Rattle.std.proofs.Common.{rules, arith, ◌+◌, ◌++◌, List, length, refl, sym, subst}
 use Rattle.dpe_base.specs.declared.pair.Pair.{Pair}
-use Rattle.dpe_engine.specs.Between.{below, AreLeft, IsBetween, IsToCome}
+use Rattle.dpe_engine.specs.Running.Between.{below, AreLeft, IsBetween, IsToCome}
 use Rattle.dpe_engine.specs.Rounds.{MayWorkRound, HasWorkedRound}
 use Rattle.dpe_engine.proofs.Advances.{may_work_round, after_round, no_round, next_group}
 use Rattle.dpe_engine.proofs.tests.rounds.work_level.Goals as goal

@@ -1,6 +1,6 @@
 use Rattle.std.proofs.Common.{rules, ◌+◌, subst, sym, List}
 use Rattle.memo_table.specs.Seats.{SeatView}
-use Rattle.dpe_engine.specs.Rounds.{IsSplit}
+use Rattle.dpe_engine.specs.Rounds.Crews.{IsSplit}
 use Rattle.dpe_engine.proofs.Splits.{split_begins, may_split, split_more}
 use Rattle.dpe_engine.proofs.whole_round.crew.split_off.Goals as goal
 

@@ -1,5 +1,5 @@
 use Rattle.std.proofs.Common.{◌≡◌, vec_capacity}
-use Rattle.dpe_engine.specs.Rounds.{IsSplit}
+use Rattle.dpe_engine.specs.Rounds.Crews.{IsSplit}
 use Rattle.dpe_engine.proofs.whole_round.crew.split_off.Given as goal
 
 abbrev pub invariant-workers : goal.invariant-workers

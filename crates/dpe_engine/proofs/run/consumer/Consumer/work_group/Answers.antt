@@ -2,8 +2,9 @@ use Rattle.std.proofs.Common.{rules, arith, ◌+◌, ◌++◌, List, length, ref
 use Rattle.std.proofs.lemmas.List.{take_at}
 use Rattle.dpe_base.specs.declared.pair.Pair.{Pair}
 use Rattle.memo_table.specs.Seats.{SeatView}
-use Rattle.dpe_engine.specs.Between.{below, AreLeft, IsBetween, IsToCome}
-use Rattle.dpe_engine.specs.Rounds.{MayWorkRound, HaveWorked, HasWorkedRound}
+use Rattle.dpe_engine.specs.Running.Between.{below, AreLeft, IsBetween, IsToCome}
+use Rattle.dpe_engine.specs.Rounds.{MayWorkRound, HasWorkedRound}
+use Rattle.dpe_engine.specs.Rounds.Crews.{HaveWorked}
 use Rattle.dpe_engine.proofs.Advances.{may_work_round, after_round, no_round, next_group}
 use Rattle.dpe_engine.proofs.Members.{counted_some, counted_none}
 use Rattle.dpe_engine.proofs.run.consumer.Consumer.work_group.Goals as goal
