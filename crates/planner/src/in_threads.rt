@@ -26,7 +26,8 @@ fn over<P: PairStream, M: CostModel, G: Gate, R: Threads + Sync>(
 ) -> Result<Planned, AllocError>
     requires options { AreAllowed job.now.options.now }
     requires connected { IsConnected job.now.query.now }
-    requires stream { IsListing job.now.options.now.class job.now.options.now.enumerator (graph_of job.now.query.now) (P.left stream) (P.total stream) }
+    requires stream { IsListing job.now.options.now.class job.now.options.now.enumerator (graph_of job.now.query.now)
+        (P.left stream) (P.total stream) }
     ensures { IfOk result (IsPlanOf M.KIND job.now.options.now job.now.query.now) }
 {
     let engine = job.engine(&stream)?;

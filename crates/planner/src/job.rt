@@ -38,7 +38,8 @@ impl<'a, M: CostModel, G: Gate> Job<'a, M, G> {
     /// An engine for the pairs of the stream, which is only named.
     pub(crate) fn engine<P: PairStream>(&self, stream: &P) -> Result<Engine<M>, AllocError>
         requires options { AreAllowed self.now.options.now }
-        requires stream { IsListing self.now.options.now.class self.now.options.now.enumerator (graph_of self.now.query.now) (P.left stream.now) (P.total stream.now) }
+        requires stream { IsListing self.now.options.now.class self.now.options.now.enumerator (graph_of self.now.query.now)
+            (P.left stream.now) (P.total stream.now) }
         ensures { IfOk result (λ engine. engine ≡ engine_of self.now.options.now self.now.query.now (P.left stream.now)) }
     {
         Engine::prepare(
@@ -56,7 +57,8 @@ impl<'a, M: CostModel, G: Gate> Job<'a, M, G> {
         requires sized { length words.now ≡ 2 ^ relations self.now.query.now }
         requires connected { IsConnected self.now.query.now }
         requires words { HasWordsAmong self.now.options.now.class M.KIND self.now.query.now words.now (full (relations self.now.query.now)) }
-        ensures { IfOk result (λ t. IsPlanAmong self.now.options.now.class M.KIND self.now.query.now (full (relations self.now.query.now)) (tree_of t)) }
+        ensures { IfOk result
+            (λ t. IsPlanAmong self.now.options.now.class M.KIND self.now.query.now (full (relations self.now.query.now)) (tree_of t)) }
     {
         let all = RelSet::full(self.query.n());
         match self.options.class {
@@ -72,8 +74,10 @@ impl<'a, M: CostModel, G: Gate> Job<'a, M, G> {
         stream: P,
     ) -> Result<Planned, AllocError>
         requires connected { IsConnected self.now.query.now }
-        requires listing { IsListing self.now.options.now.class self.now.options.now.enumerator (graph_of self.now.query.now) (listed_pairs self.now.options.now self.now.query.now) (P.total stream) }
-        requires run { IsSolved M.KIND (engine_of self.now.options.now self.now.query.now (listed_pairs self.now.options.now self.now.query.now)) solved }
+        requires listing { IsListing self.now.options.now.class self.now.options.now.enumerator (graph_of self.now.query.now)
+            (listed_pairs self.now.options.now self.now.query.now) (P.total stream) }
+        requires run { IsSolved M.KIND
+            (engine_of self.now.options.now self.now.query.now (listed_pairs self.now.options.now self.now.query.now)) solved }
         requires ended { IsTrue (P.ended stream) }
         ensures { IfOk result (IsPlanOf M.KIND self.now.options.now self.now.query.now) }
     {
