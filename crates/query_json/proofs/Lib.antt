@@ -17,6 +17,9 @@ pub mod ReadBack
 pub mod Repeats
 pub mod ScopeLaws
 pub mod SoundEntries
+pub mod StringContents
+pub mod StringsRead
 pub mod TreeLaws
 pub mod UnreachedLaws
+pub mod ValueFaults
 pub mod WalkLaws
