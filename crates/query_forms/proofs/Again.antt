@@ -2,7 +2,7 @@
 use Rattle.std.proofs.Common.{◌≡◌, ℕ, Option, Some, None, refl, ap, ap₂, ◌∙◌}
 use Rattle.std.specs.Prelude.{codes, option_and_then, option_map}
 use Rattle.serde_json.specs.Data.{Data, null, boolean, number, unsigned, negative, float, string, array, object, Items, no_items, item, no_members, put}
-use Rattle.serde_json.specs.Find.{as_array, as_str, get}
+use Rattle.serde_json.specs.Find.{as_array, get}
 use Rattle.query_json.specs.declared.file.Ratio.{Ratio}
 use Rattle.query_json.specs.declared.file.Version.TheVariants.{Two}
 use Rattle.query_json.specs.Walk.{as_ratio}

@@ -1,12 +1,11 @@
 -- A rewritten value holds what the value held.
-use Rattle.std.proofs.Common.{◌≡◌, ℕ, ◌+◌, ◌&&◌, ◌∷◌, List, Bool, true, false, cond, nat_le, Option, Some, None, is_some, Result, Ok, Err, refl, sym, ap, ◌∙◌, subst}
-use Rattle.std.specs.Prelude.{codes, option_and_then, option_map}
+use Rattle.std.proofs.Common.{◌≡◌, ℕ, ◌+◌, ◌&&◌, ◌∷◌, List, Bool, true, false, cond, nat_le, Option, Some, None, is_some, Result, Ok, Err, refl, ap, ◌∙◌}
+use Rattle.std.specs.Prelude.{codes, option_map}
 use Rattle.serde_json.specs.Data.{Data, null, boolean, number, unsigned, negative, float, string, array, object, Items, no_items, item}
-use Rattle.serde_json.specs.Find.{as_array, as_object, get}
+use Rattle.serde_json.specs.Find.{as_array, get}
 use Rattle.dpe_base.specs.declared.TheConstants.{INPUT_CAP, PREDS_MAX}
 use Rattle.query_json.specs.declared.TheConstants.{COLUMNS_MAX}
 use Rattle.query_json.specs.declared.fault.FileFault.{FileFault}
-use Rattle.query_json.specs.declared.fault.FileFault.TheVariants.{Shape}
 use Rattle.query_json.specs.declared.file.Column.{Column}
 use Rattle.query_json.specs.declared.file.File.{File}
 use Rattle.query_json.specs.declared.file.JoinItem.{JoinItem}
@@ -19,7 +18,7 @@ use Rattle.query_json.specs.declared.file.Version.TheVariants.{One, Two}
 use Rattle.query_json.specs.declared.place.Place.{Place}
 use Rattle.query_json.specs.declared.place.Site.TheVariants as site
 use Rattle.query_json.specs.Answer.{◌>>=◌}
-use Rattle.query_json.specs.Entries.{counted, entries_of_value, entry_of, tables_of}
+use Rattle.query_json.specs.Entries.{entries_of_value}
 use Rattle.query_json.specs.Walk.{as_list, as_name, as_ratio, as_whole, column_at, columns_at, each, each_given, file_at, item_count, join_at, joins_at, object_at, optional, or_shape, place, query_at, ratio_by, relation_at, required, selectivity_at, table_at, version_at}
 use Rattle.query_forms.specs.Forms.{count_in, each_item, fraction_in, list_in, rewritten_column, rewritten_file, rewritten_join, rewritten_query, rewritten_relation, rewritten_table, text_in}
 use Rattle.query_forms.specs.Fractions.{fraction_data}

@@ -1,5 +1,5 @@
 -- Changes read one after the other, as a loop does.
-use Rattle.std.proofs.Common.{◌≡◌, ◌∙◌, ℕ, zero, suc, ◌+◌, ◌-◌, ◌<◌, List, [], ◌∷◌, ◌++◌, Bool, true, false, cond, Option, Some, None, Result, Ok, Err, drop, length, get_or, map, refl, sym, ap, append_assoc, arith}
+use Rattle.std.proofs.Common.{◌≡◌, ◌∙◌, ℕ, suc, ◌+◌, ◌-◌, ◌<◌, List, [], ◌∷◌, ◌++◌, Bool, true, false, cond, Option, Some, None, Result, Ok, drop, length, get_or, refl, sym, ap, append_assoc, arith}
 use Rattle.std.specs.Prelude.{option_and_then, option_map}
 use Rattle.std.specs.List.{filter, range_with_len}
 use Rattle.std.proofs.lemmas.List.{drop_more}
@@ -9,15 +9,11 @@ use Rattle.serde_json.specs.declared.value.Value.{Value}
 use Rattle.query_json.specs.Answer.{◌>>=◌}
 use Rattle.query_forms.specs.declared.changes.Asked.{Asked}
 use Rattle.query_forms.specs.declared.changes.ChangeFault.{ChangeFault}
-use Rattle.std.specs.Str.{IsUtf8, is_utf8}
 use Rattle.std.specs.Prelude.{slice_get}
-use Rattle.std.proofs.lemmas.Str.{IsUtf8-from_is_utf8, is_utf8-from_IsUtf8}
 use Rattle.std.proofs.lemmas.Option.{get_or_from_slice_get, slice_get_within}
-use Rattle.serde_json.specs.Read.{read}
 use Rattle.query_json.specs.declared.entry.Entry.{Entry}
-use Rattle.query_json.specs.Walk.{item_count, json_of}
-use Rattle.query_forms.specs.declared.changes.ChangeFault.TheVariants.{NotJson}
-use Rattle.query_forms.specs.Changes.{all_changes, as_change, or_not_json, relations_at, uses_from, uses_in}
+use Rattle.query_json.specs.Walk.{item_count}
+use Rattle.query_forms.specs.Changes.{all_changes, as_change, relations_at, uses_from, uses_in}
 
 -- what comes behind a list that is there
 abbrev pub behind : {X : Type 0} → List X → Result (List X) ChangeFault → Result (List X) ChangeFault
@@ -67,18 +63,6 @@ pub passed_here : (p : ℕ → Bool) (r n : ℕ) (found : List ℕ) → r < n �
     → found ++ filter p (range_with_len (r + 1) (n - (r + 1))) ≡ found ++ filter p (range_with_len r (n - r))
 passed_here p r n found h is =
     ap (λ s. found ++ s) (sym (ap (filter p) (range_here r n h) ∙ ap (λ b. cond b (r ∷ filter p (range_with_len (r + 1) (n - (r + 1)))) (filter p (range_with_len (r + 1) (n - (r + 1))))) is))
-
--- ---- what the bytes read as
-
-pub json_text : (bytes : List ℕ) → IsUtf8 bytes → or_not_json (json_of bytes) ≡ or_not_json (read bytes)
-json_text bytes text = rw (is_utf8-from_IsUtf8 bytes text) refl
-
-none_by : (b : Bool) (said : Option Data) → (b ≡ true → said ≡ None) → or_not_json (cond b said None) ≡ Err NotJson
-none_by true said h = ap or_not_json (h refl)
-none_by false said h = refl
-
-pub json_none : (bytes : List ℕ) → (IsUtf8 bytes → read bytes ≡ None) → or_not_json (json_of bytes) ≡ Err NotJson
-json_none bytes h = none_by (is_utf8 bytes) (read bytes) (λ e. h (IsUtf8-from_is_utf8 bytes e))
 
 pub item_count_view : (vs : List Value) → item_count (items_view vs) ≡ length vs
 item_count_view [] = refl

@@ -1,5 +1,5 @@
 -- A rewritten file nests six levels deep at most.
-use Rattle.std.proofs.Common.{◌≡◌, ℕ, suc, ◌≤◌, List, Option, Some, None, Ordering, Less, Equal, Greater, refl, arith}
+use Rattle.std.proofs.Common.{ℕ, suc, ◌≤◌, List, Option, Some, None, Ordering, Less, Equal, Greater, arith}
 use Rattle.std.specs.Prelude.{codes, option_map, option_and_then}
 use Rattle.std.specs.Ordering.{nat_cmp, match_ordering}
 use Rattle.std.specs.Cmp.Lexicographic.{slice_cmp}

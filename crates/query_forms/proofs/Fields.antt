@@ -1,5 +1,5 @@
 -- What the members of each rewritten object are.
-use Rattle.std.proofs.Common.{◌≡◌, [], ◌∷◌, List, Option, Some, refl, ◌∙◌}
+use Rattle.std.proofs.Common.{◌≡◌, [], ◌∷◌, List, Some, ◌∙◌}
 use Rattle.std.specs.Prelude.{codes}
 use Rattle.serde_json.specs.Data.{Data, number, unsigned}
 use Rattle.serde_json.specs.Find.{get}
@@ -9,28 +9,28 @@ use Rattle.query_forms.proofs.NamedMembers.{Field, field_found, first_alone}
 abbrev column_fields : Data → List Field
 column_fields d = (codes "distinct", count_in (get (codes "distinct") d)) ∷ (codes "name", text_in (get (codes "name") d)) ∷ []
 
-abbrev table_fields : Data → List Field
+abbrev pub table_fields : Data → List Field
 table_fields d =
     (codes "rows", count_in (get (codes "rows") d)) ∷ (codes "name", text_in (get (codes "name") d))
     ∷ (codes "columns", list_in rewritten_column (get (codes "columns") d)) ∷ []
 
-abbrev relation_fields : Data → List Field
+abbrev pub relation_fields : Data → List Field
 relation_fields d =
     (codes "table", text_in (get (codes "table") d)) ∷ (codes "filter", fraction_in (get (codes "filter") d))
     ∷ (codes "alias", text_in (get (codes "alias") d)) ∷ []
 
-abbrev join_fields : Data → List Field
+abbrev pub join_fields : Data → List Field
 join_fields d =
     (codes "selectivity", fraction_in (get (codes "selectivity") d)) ∷ (codes "right_column", text_in (get (codes "right_column") d))
     ∷ (codes "right", text_in (get (codes "right") d)) ∷ (codes "left_column", text_in (get (codes "left_column") d))
     ∷ (codes "left", text_in (get (codes "left") d)) ∷ []
 
-abbrev query_fields : Data → List Field
+abbrev pub query_fields : Data → List Field
 query_fields d =
     (codes "relations", list_in rewritten_relation (get (codes "relations") d)) ∷ (codes "name", text_in (get (codes "name") d))
     ∷ (codes "joins", list_in rewritten_join (get (codes "joins") d)) ∷ []
 
-abbrev file_fields : Data → List Field
+abbrev pub file_fields : Data → List Field
 file_fields d =
     (codes "version", Some (number (unsigned 2))) ∷ (codes "tables", list_in rewritten_table (get (codes "tables") d))
     ∷ (codes "queries", list_in rewritten_query (get (codes "queries") d)) ∷ []

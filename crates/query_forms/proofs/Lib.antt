@@ -1,5 +1,6 @@
 pub mod Again
 pub mod Alike
+pub mod ByteLaws
 pub mod ChangeLaws
 pub mod Decimals
 pub mod Depths
@@ -8,4 +9,8 @@ pub mod Floats
 pub mod Items
 pub mod NamedMembers
 pub mod Powers
+pub mod ReadAgain
 pub mod RewrittenFiles
+pub mod TextLaws
+pub mod WithinBounds
+pub mod WorkloadFaults

@@ -7,7 +7,7 @@ use Rattle.query_json.specs.declared.entry.Entry.{Entry}
 use Rattle.query_json.specs.declared.fault.FileFault.{FileFault}
 use Rattle.query_json.specs.Answer.{◌>>=◌}
 use Rattle.query_json.specs.Entries.{entries_of, entries_of_value}
-use Rattle.query_json.specs.Walk.{json_at, or_not_json}
+use Rattle.query_json.specs.Walk.{json_at, json_of, or_not_json}
 use Rattle.query_json.proofs.JsonLaws.{json_text}
 use Rattle.query_forms.specs.Forms.{rewritten_file}
 use Rattle.query_forms.specs.Laws.{RewritingAgainChangesNothing, RewrittenValuesHoldTheSame}
@@ -39,6 +39,10 @@ again_the_same d new e =
     ap (λ r. r >>= λ entries. Ok (rewritten_file new)) held.2 ∙ ap Ok itself
 
 -- ---- texts
+
+pub value_at : (bytes : List ℕ) (d : Data) → json_of bytes ≡ Some d → json_at bytes ≡ Ok d
+unfolding json_at
+value_at bytes d e = ap or_not_json e
 
 -- a text that reads as what was rewritten holds the same entries
 pub texts_hold_the_same : (bytes text : List ℕ) (d new : Data) → json_at bytes ≡ Ok d → json_at text ≡ Ok new → rewritten d ≡ Ok new

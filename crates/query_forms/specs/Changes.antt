@@ -1,6 +1,6 @@
 -- A file of changes: a workload, and new numbers of rows for tables of it. What it asks for, or the first of its faults.
-use Rattle.std.specs.Prelude.{◌≡◌, ℕ, ◌+◌, ◌||◌, List, [], ◌∷◌, Bool, false, codes, if◌then◌else◌, Option, Some, None, option_and_then, option_map, Result, Ok, Err}
-use Rattle.std.specs.List.{filter, range_with_len}
+use Rattle.std.specs.Prelude.{◌≡◌, ◌≤◌, ◌<◌, ℕ, ◌+◌, ◌||◌, List, [], ◌∷◌, Bool, false, codes, if◌then◌else◌, slice_get, Option, Some, None, option_and_then, option_map, Result, Ok, Err}
+use Rattle.std.specs.List.{All, filter, range_with_len, slice_index_or}
 use Rattle.std.specs.Str.{bytes_eq}
 use Rattle.dpe_base.specs.declared.TheConstants.{INPUT_CAP}
 use Rattle.dpe_base.specs.Queries.{relations}
@@ -82,6 +82,18 @@ abbrev pub uses_from : List ℕ → Data → ℕ → List Entry → List (List �
 uses_from table workload i [] = []
 uses_from table workload i (entry ∷ entries) =
     uses_in table (relations_at workload i) entry.part ∷ uses_from table workload (i + 1) entries
+
+-- ---- its bounds
+
+-- the numbers are those of relations of the query; a refused query has none
+abbrev pub AreRelationsOf : Part → List ℕ → Type 0
+AreRelationsOf (Accepted named) rs = All (λ r. r < relations named.query) rs
+AreRelationsOf (Refused why) rs = rs ≡ []
+
+-- a change gives a table no more rows than it may have, and uses relations that the queries have
+pub record IsWithin (entries : List Entry) (c : Change) : Type 0 where
+  pub rows : c.rows ≤ INPUT_CAP
+  pub uses : (i : ℕ) (e : Entry) → slice_get entries i ≡ Some e → AreRelationsOf e.part (slice_index_or c.uses i [])
 
 -- ---- the file
 

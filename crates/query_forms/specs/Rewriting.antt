@@ -1,5 +1,5 @@
 -- A workload file rewritten in version 2: the same file with its members of the format alone, or the file's first fault.
-use Rattle.std.specs.Prelude.{ℕ, List, Result, Ok, Err}
+use Rattle.std.specs.Prelude.{ℕ, List, Result, Ok}
 use Rattle.serde_json.specs.Data.{Data}
 use Rattle.serde_json.specs.Written.{compact_text}
 use Rattle.query_json.specs.declared.fault.FileFault.{FileFault}

@@ -1,14 +1,14 @@
 //! Files of changes: a workload, and new numbers of rows for tables of it.
 ghost use Rattle.std.specs.Prelude.{◌≡◌, ◌<◌, ◌≤◌, [], IfOk, IfSome, codes, length, option_and_then, option_map};
-ghost use Rattle.std.specs.List.{filter, range_with_len};
+ghost use Rattle.std.specs.List.{All, filter, range_with_len};
 ghost use Rattle.dpe_base.specs.Queries.{relations};
 ghost use Rattle.serde_json.specs.Find.{at, get};
 ghost use Rattle.serde_json.specs.View.{items_view, view};
 ghost use Rattle.query_json.specs.Entries.{entries_of_value};
 ghost use Rattle.query_json.specs.Walk.Places.{items_in};
-ghost use Rattle.query_json.specs.Walk.{json_of};
-ghost use Rattle.query_forms.specs.Changes.{ChangesBy, all_changes, as_change, change_at, changed_of, changes_from, changes_in, has_table, is_on, most_changes, or_not_json, or_workload, relations_at, says, uses_from, uses_in};
+ghost use Rattle.query_forms.specs.Changes.{ChangesBy, IsWithin, all_changes, as_change, change_at, changed_of, changes_from, changes_in, has_table, is_on, most_changes, or_workload, relations_at, says, uses_from, uses_in};
 
+use crate::bytes::value_of;
 use dpe_base::{INPUT_CAP, Name};
 use query_json::{FileFault, Items, Part, Workload, is_name, read_value};
 use serde_json::Value;
@@ -281,22 +281,6 @@ fn changes_of(
     Ok(Items::from_vec(changes))
 }
 
-/// The value of a file's bytes.
-#[tactic(auto, using(crate::proofs::ChangeLaws::json_text, crate::proofs::ChangeLaws::json_none))]
-fn value_in(alloc: Global, bytes: &[u8]) -> Result<Value, ChangeFault>
-    ensures { ChangesBy view result (or_not_json (json_of bytes.now)) }
-{
-    match Value::from_slice(alloc, bytes) {
-        Ok(value) => Ok(value),
-        Err(error) => {
-            if error.is_memory() {
-                return Err(ChangeFault::NoMemory);
-            }
-            Err(ChangeFault::NotJson)
-        }
-    }
-}
-
 /// The entries of the workload.
 fn workload_of(alloc: Global, value: &Value) -> Result<Workload, ChangeFault>
     ensures { ChangesBy (λ x. x) result (or_workload (entries_of_value (view value.now))) }
@@ -314,9 +298,12 @@ fn workload_of(alloc: Global, value: &Value) -> Result<Workload, ChangeFault>
 /// Fails with the first fault of the text, in the order of [`ChangeFault`]. Fails also where there is no memory.
 #[tactic(auto, unfolding(crate::specs::Changes::changed_of))]
 pub fn read_changes(alloc: Global, bytes: &[u8]) -> Result<Changed, ChangeFault>
-    ensures { ChangesBy (λ x. x) result (changed_of bytes.now) }
+    ensures read { ChangesBy (λ x. x) result (changed_of bytes.now) }
+    ensures within { IfOk result (λ file. All (IsWithin file.workload) file.changes) }
 {
-    let value = value_in(alloc, bytes)?;
+    let Some(value) = value_of(alloc, bytes)? else {
+        return Err(ChangeFault::NotJson);
+    };
     let Some(asked) = changes_in(alloc, value.get("changes"))? else {
         return Err(ChangeFault::BadChanges);
     };

@@ -7,6 +7,7 @@
 //! [`read_changes`] reads a workload together with new rows for some of its tables, and finds where its queries use them.
 #![tactic(auto)]
 
+mod bytes;
 mod changes;
 mod fraction;
 pub mod laws;

@@ -6,29 +6,13 @@ ghost use Rattle.serde_json.specs.Written.{has_float};
 ghost use Rattle.query_json.specs.declared.entry.Entry.{Entry};
 ghost use Rattle.query_json.specs.Answer.{GivesBy};
 ghost use Rattle.query_json.specs.Entries.{entries_of};
-ghost use Rattle.query_json.specs.Walk.{json_at};
 ghost use Rattle.query_forms.specs.Rewriting.{rewritten, rewritten_text};
 
+use crate::bytes::value_of;
 use crate::objects::rewritten_file;
 use query_json::{FileFault, read_value};
 use serde_json::Value;
 use std::alloc::Global;
-
-/// The value of a file's bytes. `NotJson` where they have none.
-#[tactic(auto, using(query_json::proofs::JsonLaws::json_text, query_json::proofs::JsonLaws::json_none))]
-fn value_of(alloc: Global, bytes: &[u8]) -> Result<Value, FileFault>
-    ensures { GivesBy view result (json_at bytes.now) }
-{
-    match Value::from_slice(alloc, bytes) {
-        Ok(value) => Ok(value),
-        Err(error) => {
-            if error.is_memory() {
-                return Err(FileFault::NoMemory);
-            }
-            Err(FileFault::NotJson)
-        }
-    }
-}
 
 /// The value of a workload file in version 2: the object with the members of the format that are there, and no others.
 ///
@@ -49,13 +33,15 @@ pub fn rewritten(alloc: Global, value: &Value) -> Result<Value, FileFault>
 ///
 /// The text holds the same entries as the file, and stays as it is when it is rewritten.
 /// Fails as [`read`](query_json::read) does, with the first fault of the text or where there is no memory.
-#[tactic(auto, unfolding(crate::specs::Rewriting::rewritten_text))]
+#[tactic(auto, unfolding(crate::specs::Rewriting::rewritten_text, query_json::specs::Walk::json_at))]
 pub fn rewrite(alloc: Global, bytes: &[u8]) -> Result<Vec<u8>, FileFault>
     ensures text { GivesBy (λ text. text.items) result (rewritten_text bytes.now) }
     ensures same { IfOk result (λ text. (entries : List Entry) × (entries_of bytes.now ≡ Ok entries) × (entries_of text.items ≡ Ok entries)) }
     ensures again { IfOk result (λ text. rewritten_text text.items ≡ Ok text.items) }
 {
-    let value = value_of(alloc, bytes)?;
+    let Some(value) = value_of(alloc, bytes)? else {
+        return Err(FileFault::NotJson);
+    };
     let new = rewritten(alloc, &value)?;
     Ok(new.to_vec(alloc)?)
 }

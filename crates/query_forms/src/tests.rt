@@ -1,4 +1,7 @@
 //! Files in version 2: what is written, that it holds the same, and that it stays as it is.
+mod changed;
+mod lengths;
+
 use super::*;
 use query_json::{Entry, FileFault, Named, Part, read, write_path, write_refusal};
 use std::alloc::{AllocError, Global};

@@ -1,4 +1,4 @@
-use Rattle.std.proofs.Common.{◌≡◌, ◌/◌, ◌-◌, ◌^◌, ◌<◌, ◌++◌, ap, sym, ◌∙◌, subst}
+use Rattle.std.proofs.Common.{◌/◌, ◌-◌, ◌<◌, sym, subst}
 use Rattle.query_forms.proofs.Powers.{digits_pushed, ten_some, tens_below}
 use Rattle.query_forms.proofs.fraction.push_last_digits.Goals as goal
 

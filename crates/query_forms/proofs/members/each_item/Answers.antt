@@ -1,4 +1,4 @@
-use Rattle.std.proofs.Common.{map, take, sym, ap, ◌∙◌, arith}
+use Rattle.std.proofs.Common.{map, ap, ◌∙◌, arith}
 use Rattle.serde_json.specs.View.{items_of, view}
 use Rattle.std.proofs.lemmas.List.{take_all}
 use Rattle.query_forms.proofs.Items.{each_item_view}
