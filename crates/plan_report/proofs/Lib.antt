@@ -1,3 +1,5 @@
+pub mod CertBack
+pub mod CertFaults
 pub mod CertItems
 pub mod CertMembers
 pub mod CertPlain
@@ -7,3 +9,4 @@ pub mod Heights
 pub mod Holdings
 pub mod Measures
 pub mod Plain
+pub mod WorkloadFaults

@@ -2,10 +2,12 @@
 pub mod Faults
 pub mod Members
 pub mod Plans
-use Rattle.std.specs.Prelude.{ℕ, ◌==◌, ◌^◌, ◌&&◌, nat_le, List, [], ◌∷◌, length, map, Bool, true, false, if◌then◌else◌, Option, Some, None, option_and_then, Result, Ok, Err, codes}
+use Rattle.std.specs.Prelude.{◌≡◌, ◌≤◌, ℕ, ◌==◌, ◌^◌, ◌&&◌, nat_le, List, [], ◌∷◌, length, map, Bool, true, false, if◌then◌else◌, Option, Some, None, option_and_then, Result, Ok, Err, codes}
+use Rattle.std.specs.List.{All}
 use Rattle.std.specs.Str.{bytes_eq}
-use Rattle.serde_json.specs.Data.{Data, string, array, object, member, no_members}
+use Rattle.serde_json.specs.Data.{Data, string, array, object, member, no_members, depth}
 use Rattle.serde_json.specs.Find.{get, as_str, as_array}
+use Rattle.serde_json.specs.Read.{max_depth}
 use Rattle.serde_json.specs.View.{items_of}
 use Rattle.dpe_base.specs.Queries.{JoinQuery, relations}
 use Rattle.cost_model.specs.declared.model.ModelKind.{ModelKind}
@@ -20,6 +22,7 @@ use Rattle.plan_report.specs.declared.certs.cert.Certs.{Certs}
 use Rattle.plan_report.specs.declared.certs.fault.CertFault.{CertFault}
 use Rattle.plan_report.specs.declared.certs.fault.CertFault.TheVariants.{BadCertificates, NotJson}
 use Rattle.plan_report.specs.Certs.Faults.{or_bad, or_fault, of_workload}
+use Rattle.plan_report.specs.Certs.Plans.{HasSmallNumbers}
 use Rattle.plan_report.specs.Certs.Members.{Certificate, certificates_of, each_item, member_read, member_written}
 use Rattle.plan_report.specs.Names.{model_name}
 
@@ -76,3 +79,15 @@ certs_read bytes = do
   entries ← of_workload (entries_of_value workload)
   certs ← each_item member_read members
   if all_suit entries certs then Ok (record { model = model; workload = entries; certs = certs }) else Err BadCertificates
+
+abbrev pub IsReadable : Option Certificate → Type 0
+IsReadable None = Unit {0}
+IsReadable (Some c) = HasSmallNumbers c.tree
+
+-- the text of a file reads as what was written: where the workload has no fault, each member may stand for its query, and neither the
+-- numbers of a plan nor the levels of the file are more than is read
+abbrev pub ReadsBack : ModelKind → Data → List (Option Certificate) → List ℕ → Type 0
+ReadsBack model workload certs text =
+    (entries : List Entry) → entries_of_value workload ≡ Ok entries → all_suit entries certs ≡ true → All IsReadable certs
+    → depth (file_written model workload certs) ≤ max_depth
+    → certs_read text ≡ Ok (record { model = model; workload = entries; certs = certs })

@@ -1,6 +1,7 @@
 -- The answers of reading a certificate file: the first fault that is found.
 use Rattle.std.specs.Prelude.{◌≡◌, Option, Some, None, Result, Ok, Err}
 use Rattle.query_json.specs.declared.fault.FileFault.{FileFault}
+use Rattle.query_json.specs.declared.fault.FileFault.TheVariants as file
 use Rattle.plan_report.specs.declared.certs.fault.CertFault.{CertFault}
 use Rattle.plan_report.specs.declared.certs.fault.CertFault.TheVariants.{NotJson, BadCertificates, Workload, NoMemory}
 
@@ -29,3 +30,14 @@ GivesBy view (Err e) said = Fails e said
 -- the same of a value that is seen as it is
 abbrev pub Gives : {X : Type 0} → Result X CertFault → Result X CertFault → Type 0
 Gives = GivesBy (λ x. x)
+
+-- a value may have this fault: its bytes were read, and want of memory says nothing of it
+abbrev pub IsFaultOfValue : FileFault → Type 0
+IsFaultOfValue file.NotJson = ⊥
+IsFaultOfValue file.NoMemory = ⊥
+IsFaultOfValue fault = Unit {0}
+
+-- each cause has one name: what a workload's own fault could say of bytes and of memory, the file's fault says
+abbrev pub HasOneName : CertFault → Type 0
+HasOneName (Workload fault) = IsFaultOfValue fault
+HasOneName fault = Unit {0}

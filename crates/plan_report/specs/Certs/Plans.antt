@@ -1,5 +1,5 @@
 -- A plan in a certificate file: a relation's number, or the operator's number and the plans of the left and the right side.
-use Rattle.std.specs.Prelude.{ℕ, option_map, Result, Ok, Err}
+use Rattle.std.specs.Prelude.{◌≤◌, ℕ, option_map, Result, Ok, Err}
 use Rattle.serde_json.specs.Data.{Data, number, array, Items, item, no_items}
 use Rattle.join_tree.specs.Trees.{JoinTree, leaf, join}
 use Rattle.query_json.specs.Answer.{◌>>=◌}
@@ -30,3 +30,8 @@ plan_read (array (item op (item left (item right no_items)))) = do
   r ← plan_read right
   Ok (join o l r)
 plan_read d = Err BadCertificates
+
+-- its numbers are small enough to be read
+abbrev pub HasSmallNumbers : JoinTree → Type 0
+HasSmallNumbers (leaf r) = r ≤ most_relation
+HasSmallNumbers (join op left right) = (op ≤ most_operator) × HasSmallNumbers left × HasSmallNumbers right

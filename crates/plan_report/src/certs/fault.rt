@@ -13,7 +13,7 @@ pub enum CertFault {
     /// The root has no model, no workload or no list of certificates; or, where the workload has no fault, the
     /// list hasn't a member for each query, or some member is no certificate that may stand for its query.
     BadCertificates,
-    /// The fault of the workload.
+    /// The fault of the workload, which is neither `NotJson` nor `NoMemory`.
     Workload(FileFault),
     /// Memory ran out, which says nothing of the file.
     NoMemory,

@@ -1,12 +1,12 @@
 //! Reading a certificate file.
-ghost use Rattle.std.specs.Prelude.{◌≡◌, IfOk, option_map, option_and_then, true};
+ghost use Rattle.std.specs.Prelude.{◌≡◌, IfErr, IfOk, option_map, option_and_then, true};
 ghost use Rattle.serde_json.specs.Find.{as_str};
 ghost use Rattle.serde_json.specs.View.{view};
 ghost use Rattle.query_json.specs.Entries.{entries_of_value};
 ghost use Rattle.query_json.specs.Walk.{json_of};
 ghost use Rattle.plan_report.specs.declared.certs.fault.CertFault.TheVariants.{NotJson};
 ghost use Rattle.plan_report.specs.Certs.{all_suit, certs_read, file_of, model_named, suits, suits_query};
-ghost use Rattle.plan_report.specs.Certs.Faults.{Gives, GivesBy, of_workload, or_bad, or_fault};
+ghost use Rattle.plan_report.specs.Certs.Faults.{Gives, GivesBy, HasOneName, of_workload, or_bad, or_fault};
 ghost use Rattle.plan_report.specs.Certs.Members.{certificate_of, certificates_of};
 
 use crate::certs::cert::{Cert, Certs};
@@ -92,12 +92,9 @@ fn all_suit(workload: &Workload, members: &[Option<Cert>]) -> bool
     true
 }
 
-/// Reads a certificate file: its model, its workload, and a member for each query, in the order of the queries.
-///
-/// Fails with the first fault of the file in the order of [`CertFault`], where a member that is no certificate of its query
-/// comes after the workload's fault. Fails also where there is no memory.
+// The model, the workload and the members of a file.
 #[tactic(auto, unfolding(crate::specs::Certs::certs_read))]
-pub fn read_certs(alloc: Global, bytes: &[u8]) -> Result<Certs, CertFault>
+fn certs_of_bytes(alloc: Global, bytes: &[u8]) -> Result<Certs, CertFault>
     ensures file { GivesBy file_of result (certs_read bytes.now) }
     ensures suits { IfOk result (λ c. all_suit c.workload (certificates_of c.certs) ≡ true) }
 {
@@ -118,4 +115,16 @@ pub fn read_certs(alloc: Global, bytes: &[u8]) -> Result<Certs, CertFault>
         workload,
         certs,
     })
+}
+
+/// Reads a certificate file: its model, its workload, and a member for each query, in the order of the queries.
+///
+/// Fails with the first fault of the file in the order of [`CertFault`], where a member that is no certificate of its query
+/// comes after the workload's fault. Fails also where there is no memory.
+pub fn read_certs(alloc: Global, bytes: &[u8]) -> Result<Certs, CertFault>
+    ensures file { GivesBy file_of result (certs_read bytes.now) }
+    ensures suits { IfOk result (λ c. all_suit c.workload (certificates_of c.certs) ≡ true) }
+    ensures named { IfErr result HasOneName }
+{
+    certs_of_bytes(alloc, bytes)
 }

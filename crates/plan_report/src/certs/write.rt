@@ -2,7 +2,7 @@
 ghost use Rattle.std.specs.Prelude.{◌≡◌, IfOk, false};
 ghost use Rattle.serde_json.specs.View.{view};
 ghost use Rattle.serde_json.specs.Written.{compact_text, has_float};
-ghost use Rattle.plan_report.specs.Certs.{file_written};
+ghost use Rattle.plan_report.specs.Certs.{ReadsBack, file_written};
 ghost use Rattle.plan_report.specs.Certs.Members.{certificates_of};
 
 use crate::certs::cert::Cert;
@@ -27,7 +27,8 @@ fn file_to_value(
 }
 
 /// The text of a certificate file with this workload, in which no number has a point or an exponent, and with a member for
-/// each query: its certificate, or null. It is compact, and no newline stands at its end.
+/// each query: its certificate, or null. It is compact, and no newline stands at its end. [`read_certs`](crate::read_certs) reads it
+/// as it was written.
 ///
 /// Fails where there is no memory.
 pub fn write_certs(
@@ -37,9 +38,9 @@ pub fn write_certs(
     certs: &[Option<Cert>],
 ) -> Result<Vec<u8>, AllocError>
     requires { has_float (view workload) ≡ false }
-    ensures { IfOk result (λ v. v.items ≡ compact_text (file_written model (view workload) (certificates_of certs.now))) }
+    ensures text { IfOk result (λ v. v.items ≡ compact_text (file_written model (view workload) (certificates_of certs.now))) }
+    ensures read { IfOk result (λ v. ReadsBack model (view workload) (certificates_of certs.now) v.items) }
 {
     let file = file_to_value(alloc, model, workload, certs)?;
-    let text = file.to_string(alloc)?;
-    Ok(text.into_bytes())
+    Ok(file.to_vec(alloc)?)
 }

@@ -184,7 +184,7 @@ fn a_member_may_stand_for_its_query(rt: HostRuntime) -> Result<(), Fail> {
     Ok(())
 }
 
-// A chain of so many relations, and a certificate of it whose bounds are 0.
+// A file with a chain of so many relations, up to its certificates.
 fn chain(alloc: Global, n: u32) -> Result<String, Fail> {
     let mut text = String::from_str(
         alloc,
@@ -202,7 +202,14 @@ fn chain(alloc: Global, n: u32) -> Result<String, Fail> {
             "{comma}{{\"left\":\"r{before}\",\"right\":\"r{i}\",\"selectivity\":[1,1]}}"
         )?;
     }
-    text.push_str(r#"]}]},"certificates":[{"plan":0,"bounds":[0"#)?;
+    text.push_str(r#"]}]},"certificates":["#)?;
+    Ok(text)
+}
+
+// The file with a certificate whose bounds are 0.
+fn certified_chain(alloc: Global, n: u32) -> Result<String, Fail> {
+    let mut text = chain(alloc, n)?;
+    text.push_str(r#"{"plan":0,"bounds":[0"#)?;
     for _ in 1..1u64 << n.min(20) {
         text.push_str(",0")?;
     }
@@ -213,7 +220,39 @@ fn chain(alloc: Global, n: u32) -> Result<String, Fail> {
 #[test]
 fn twelve_relations_may_be_certified(rt: HostRuntime) -> Result<(), Fail> {
     let alloc = rt.alloc();
-    assert_eq!(rt; answer(alloc, chain(alloc, 12)?.as_str()), "read");
-    assert_eq!(rt; answer(alloc, chain(alloc, 13)?.as_str()), "bad");
+    assert_eq!(rt; answer(alloc, certified_chain(alloc, 12)?.as_str()), "read");
+    assert_eq!(rt; answer(alloc, certified_chain(alloc, 13)?.as_str()), "bad");
+    let mut uncertified = chain(alloc, 13)?;
+    uncertified.push_str("null]}")?;
+    assert_eq!(rt; answer(alloc, uncertified.as_str()), "read");
+    Ok(())
+}
+
+// Three members, of which the first has a plan of so many joins, each the left side of the next.
+fn with_left_deep_plan(alloc: Global, joins: u32) -> Result<String, Fail> {
+    let mut members = String::from_str(alloc, r#"[{"bounds":[0,0,0,0],"plan":"#)?;
+    for _ in 0..joins {
+        members.push_str("[0,")?;
+    }
+    members.push_str("0")?;
+    for _ in 0..joins {
+        members.push_str(",1]")?;
+    }
+    members.push_str("},null,null]")?;
+    Ok(members)
+}
+
+#[test]
+fn plans_nest_as_deep_as_json_is_read(rt: HostRuntime) -> Result<(), Fail> {
+    let alloc = rt.alloc();
+    // the file, the list of members and the member are three levels of 127
+    for (joins, expected) in [(1u32, "read"), (124, "read"), (125, "not JSON")] {
+        let members = with_left_deep_plan(alloc, joins)?;
+        assert_eq!(rt;
+            answer_to_members(alloc, members.as_str())?,
+            expected,
+            "{joins}"
+        );
+    }
     Ok(())
 }
