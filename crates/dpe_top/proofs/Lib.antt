@@ -7,5 +7,5 @@ pub mod Reporting
 pub mod Sums
 pub mod OneSample
 pub mod OneReport
-pub mod NamedModes
 pub mod AtOnce
+pub mod Replanning

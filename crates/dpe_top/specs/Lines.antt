@@ -7,6 +7,8 @@ use Rattle.query_json.specs.Texts.{path_of}
 use Rattle.plan_report.specs.declared.certs.fault.CertFault.{CertFault}
 use Rattle.plan_report.specs.declared.certs.fault.CertFault.TheVariants as cert
 use Rattle.plan_report.specs.Texts.{newline}
+use Rattle.query_forms.specs.declared.changes.ChangeFault.{ChangeFault}
+use Rattle.query_forms.specs.declared.changes.ChangeFault.TheVariants as change
 
 -- a file's fault in words; want of memory is none
 abbrev pub fault_text : FileFault → List ℕ
@@ -29,6 +31,20 @@ cert_fault_line cert.NotJson = fault_line NotJson
 cert_fault_line cert.BadCertificates = bad_certificates_line
 cert_fault_line (cert.Workload fault) = fault_line fault
 cert_fault_line cert.NoMemory = fault_line NoMemory
+
+unfoldable pub bad_changes_line : List ℕ
+bad_changes_line = codes "input: bad changes" ++ newline
+
+unfoldable pub unknown_table_line : ℕ → List ℕ
+unknown_table_line j = codes "input: change " ++ (decimal j ++ (codes " names no table" ++ newline))
+
+-- the line of the fault of a file of changes: that of its workload, where it has one
+abbrev pub change_fault_line : ChangeFault → List ℕ
+change_fault_line change.NotJson = fault_line NotJson
+change_fault_line change.BadChanges = bad_changes_line
+change_fault_line (change.Workload fault) = fault_line fault
+change_fault_line (change.UnknownTable j) = unknown_table_line j
+change_fault_line change.NoMemory = fault_line NoMemory
 
 unfoldable pub too_long_line : List ℕ
 too_long_line = codes "input: more than 8388608 bytes" ++ newline

@@ -2,23 +2,19 @@
 use Rattle.dpe_words.specs.declared.choices.Mode.{Mode}
 use Rattle.dpe_words.specs.declared.choices.Mode.TheVariants as mode
 use Rattle.dpe_words.specs.declared.choices.Settings.{Settings}
-use Rattle.dpe_words.specs.Usage.{usage_line}
-use Rattle.dpe_top.specs.declared.status.Outcome.TheVariants.{Usage}
-use Rattle.dpe_top.specs.Answers.{Task, at_once, reads, line}
+use Rattle.dpe_top.specs.Answers.{Task, at_once, reads}
 use Rattle.dpe_top.specs.Modes.Certify.{certificates_of_bytes}
 use Rattle.dpe_top.specs.Modes.Check.{verdicts_of_bytes}
 use Rattle.dpe_top.specs.Modes.Migrate.{migration}
+use Rattle.dpe_top.specs.Modes.Replan.{replanned_of_bytes}
 use Rattle.dpe_top.specs.Modes.Report.{report_of_bytes}
 use Rattle.dpe_top.specs.Modes.Sample.{sample}
 pub mod Certify
 pub mod Check
 pub mod Migrate
+pub mod Replan
 pub mod Report
 pub mod Sample
-
--- No arguments name a mode that isn't built.
-abbrev pub not_built : Task
-not_built = at_once (line Usage usage_line)
 
 abbrev pub task_in : Mode → Settings → Task
 task_in mode.Plan settings = reads (report_of_bytes settings)
@@ -29,7 +25,7 @@ task_in mode.Check settings = reads verdicts_of_bytes
 task_in mode.Narrow settings = reads (report_of_bytes settings)
 task_in mode.Zigzag settings = reads (report_of_bytes settings)
 task_in mode.Leftdeep settings = reads (report_of_bytes settings)
-task_in mode.Reopt settings = not_built
+task_in mode.Reopt settings = reads (replanned_of_bytes settings)
 
 -- what the settings ask for
 abbrev pub task_by : Settings → Task

@@ -14,7 +14,7 @@ ghost use Rattle.dpe_top.specs.Reply.{AtOnce, IsAnswered, IsReported, IsWellForm
 
 use crate::INPUT_MAX;
 use crate::lines::too_long_line;
-use crate::modes::{certify, check, migrate, plan, sample};
+use crate::modes::{certify, check, migrate, plan, replan, sample};
 use crate::planning::Planning;
 use crate::reply::Reply;
 use crate::status::{Failure, Outcome, Status};
@@ -40,8 +40,9 @@ fn reply_to_bytes<R: Threads + Sync, G: Gate>(
         Mode::Migrate => migrate::reply(planning.alloc(), bytes),
         Mode::Certify => certify::reply(planning, bytes),
         Mode::Check => check::reply(planning.alloc(), bytes),
-        // The first reads nothing, and no arguments name the other yet.
-        Mode::Sample | Mode::Reopt => unreachable!(),
+        Mode::Reopt => replan::reply(planning, bytes),
+        // it reads nothing
+        Mode::Sample => unreachable!(),
     }
 }
 
@@ -91,7 +92,9 @@ fn reply_to<R: Threads + Sync, S: Source, G: Gate>(
     ensures said { IfOk result (λ r. IfSome (S.left source.old) (λ bytes. Replies (answer (texts_of words.now) bytes) r)) }
     ensures unread { AtOnce (task (texts_of words.now)) (λ said. (source.new ≡ source.old) × IfOk result (Replies said)) }
     ensures read { Reads (task (texts_of words.now)) → IfOk result (λ r. Took r.outcome (S.left source.old) (S.left source.new)) }
-    ensures some { Reads (task (texts_of words.now)) → IfOk result (λ r. SomeTaken (S.left source.old) (S.left source.new) (λ bytes. Replies (answer (texts_of words.now) bytes) r)) }
+    ensures some { Reads (task (texts_of words.now))
+        → IfOk result
+        (λ r. SomeTaken (S.left source.old) (S.left source.new) (λ bytes. Replies (answer (texts_of words.now) bytes) r)) }
     ensures kept { IfOk result (λ _. S.faults source.new ≡ S.faults source.old) }
     ensures err { IfErr result (λ e. MayEnd e (S.faults source.old) (S.faults source.new) (S.sure source.old) (S.left source.old) (S.left source.new)) }
     ensures usage { IfOk result (λ r. status_of r.outcome ≡ Status.Usage → IsLine (texts_of words.now) → ⊥) }
@@ -105,10 +108,10 @@ fn reply_to<R: Threads + Sync, S: Source, G: Gate>(
                 Mode::Plan | Mode::Narrow | Mode::Zigzag | Mode::Leftdeep => {
                     read_reply(&planning, source)
                 }
-                Mode::Migrate | Mode::Certify | Mode::Check => read_reply(&planning, source),
+                Mode::Migrate | Mode::Certify | Mode::Check | Mode::Reopt => {
+                    read_reply(&planning, source)
+                }
                 Mode::Sample => Ok(sample::reply(&planning)?),
-                // No arguments name this one yet.
-                Mode::Reopt => unreachable!(),
             }
         }
         Err(WordFault::Usage) => Ok(usage_reply(alloc)?),

@@ -3,4 +3,5 @@ pub mod certify;
 pub mod check;
 pub mod migrate;
 pub mod plan;
+pub mod replan;
 pub mod sample;

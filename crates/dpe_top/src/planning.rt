@@ -1,17 +1,25 @@
 //! What planning by the settings of a command line takes.
-ghost use Rattle.std.specs.Prelude.{◌≡◌, ◌≤◌, IfOk};
+ghost use Rattle.std.specs.Prelude.{◌≡◌, ◌≤◌, ◌<◌, length, IfOk};
+ghost use Rattle.dpe_base.specs.declared.TheConstants.{INPUT_CAP};
+ghost use Rattle.dpe_base.specs.Queries.{relations, with_rows};
 ghost use Rattle.dpe_words.specs.Line.{AreInRange};
 ghost use Rattle.planner.specs.Costs.{IsCostedPlan};
 ghost use Rattle.planner.specs.Plans.{IsConnected, IsPlanOf};
 ghost use Rattle.planner.specs.Ranges.{AreAllowed};
+ghost use Rattle.reopt.specs.Keeping.{AreBestWords, touched_pairs};
+ghost use Rattle.dpe_top.specs.Modes.Replan.{AreListed};
 ghost use Rattle.dpe_top.specs.Statistics.{options_of, options_with, stats_with};
 
 use crate::classes::class_of;
 use cost_model::CostModel;
 use dpe_base::{Query, WORKERS_MAX};
+use dpe_engine::{Engine, Solved};
 use dpe_words::Settings;
+use enum_dpccp::DpCcp;
+use join_graph::Graph;
 use plan_report::Stats;
 use planner::{CostedPlan, Gate, Options, Planned, plan, plan_alone, plan_with_costs};
+use reopt::Kept;
 use std::alloc::{AllocError, Global};
 use std::marker::Model;
 use std::thread::Threads;
@@ -119,6 +127,39 @@ impl<'a, G: Gate, R: Threads + Sync> Planning<'a, G, R> {
     {
         let options = self.options(self.settings.workers);
         plan_with_costs(self.rt, self.alloc, query, model, &options, self.gate)
+    }
+
+    /// What a run of the engine leaves over all pairs of a connected query, as DPccp lists them.
+    pub fn run_all<M: CostModel>(&self, query: &Query, model: M) -> Result<Solved, AllocError>
+        requires connected { IsConnected query.now }
+        ensures best { IfOk result (λ s. AreBestWords M.KIND query.now s.words.row) }
+        ensures listed { IfOk result (λ s. AreListed query.now s.pairs) }
+    {
+        query.recall();
+        let graph = Graph::of(query);
+        let all = DpCcp::over(&graph);
+        let (buffer, workers) = (self.settings.buffer, self.settings.workers);
+        let engine = Engine::prepare(self.alloc, query, model, buffer, workers, &all)?;
+        let (solved, _) = engine.run(self.rt, all, self.gate);
+        Ok(solved)
+    }
+
+    /// Gives a relation of a kept query so many rows, and answers how many pairs were processed again for it.
+    ///
+    /// Fails when memory runs out.
+    pub fn change<M: CostModel>(
+        &self,
+        kept: &mut Kept<M>,
+        r: u8,
+        rows: u64,
+    ) -> Result<u64, AllocError>
+        requires relation { r < relations kept.old.query }
+        requires rows { rows ≤ INPUT_CAP }
+        ensures query { IfOk result (λ _. kept.new.query ≡ with_rows kept.old.query r rows) }
+        ensures again { IfOk result (λ n. n ≡ length (touched_pairs kept.new.query r)) }
+    {
+        let (buffer, workers) = (self.settings.buffer, self.settings.workers);
+        kept.change(self.rt, self.alloc, r, rows, buffer, workers, self.gate)
     }
 
     /// The statistics of a plan, where the settings ask for them and the mode prints them.

@@ -10,6 +10,7 @@ mod migrations;
 mod observers;
 mod plans;
 mod refusals;
+mod reoptimised;
 mod samples;
 mod shapes;
 mod sizes;

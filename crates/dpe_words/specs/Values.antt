@@ -10,12 +10,12 @@ use Rattle.cost_model.specs.declared.model.ModelKind.TheVariants.{Ops, Cout}
 use Rattle.dpe_base.specs.declared.kind.Kind.{Kind}
 use Rattle.dpe_base.specs.declared.kind.Kind.TheVariants.{DpCcp, DpSub, DpSize, DpSva}
 use Rattle.dpe_words.specs.declared.choices.Mode.{Mode}
-use Rattle.dpe_words.specs.declared.choices.Mode.TheVariants.{Plan, Sample, Migrate, Certify, Check, Narrow, Zigzag, Leftdeep}
+use Rattle.dpe_words.specs.declared.choices.Mode.TheVariants.{Plan, Sample, Migrate, Certify, Check, Narrow, Zigzag, Leftdeep, Reopt}
 use Rattle.plan_report.specs.Names.{enumerator_name}
 use Rattle.plan_report.specs.declared.report.Format.{Format}
 use Rattle.plan_report.specs.declared.report.Format.TheVariants as format
 
--- ---- the words of each option; a mode or an enumerator stands here once its layer is built
+-- ---- the words of each option
 
 abbrev pub modes : List (Text × Mode)
 modes =
@@ -27,6 +27,7 @@ modes =
     ∷ (codes "narrow", Narrow)
     ∷ (codes "zigzag", Zigzag)
     ∷ (codes "leftdeep", Leftdeep)
+    ∷ (codes "reopt", Reopt)
     ∷ []
 
 abbrev pub enumerators : List (Text × Kind)

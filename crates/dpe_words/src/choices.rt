@@ -7,7 +7,7 @@ use dpe_base::Kind;
 use plan_report::Format;
 use std::alloc::{AllocError, AllocFailed, Global};
 
-/// What the program is asked to do. The mode `Reopt` isn't built yet: no argument names it, so that `--mode reopt` is invalid.
+/// What the program is asked to do.
 #[derive(Clone, Copy, Debug, PartialEq, Eq)]
 pub enum Mode {
     /// A report of the workload that is read.
@@ -26,7 +26,7 @@ pub enum Mode {
     Zigzag,
     /// A report with plans among the trees in which the right side of each join is a relation.
     Leftdeep,
-    /// Plans again after changed rows.
+    /// The plans of a workload, and after each change of the rows of a table the plans with the rows so far.
     Reopt,
 }
 

@@ -27,7 +27,7 @@ fn settings_of(alloc: Global, words: &[&str]) -> Result<Settings, WordFault> {
 #[test]
 fn words_that_are_no_line(rt: HostRuntime) -> Result<(), Fail> {
     let alloc = rt.alloc();
-    let lines: [&[&str]; 32] = [
+    let lines: [&[&str]; 31] = [
         &["--workers", "0"],
         &["--workers", "65"],
         &["--workers", "four"],
@@ -41,7 +41,6 @@ fn words_that_are_no_line(rt: HostRuntime) -> Result<(), Fail> {
         &["--mode", "plan", "--mode", "plan"],
         &["--mode=plan", "--mode", "plan"],
         &["--mode", "unheard"],
-        &["--mode", "reopt"],
         &["--mode", "sample", "--format", "xml"],
         &["--mode", "--"],
         &["plan"],
@@ -74,7 +73,7 @@ fn words_that_are_no_line(rt: HostRuntime) -> Result<(), Fail> {
 #[test]
 fn lines_and_their_settings(rt: HostRuntime) -> Result<(), Fail> {
     let alloc = rt.alloc();
-    let lines: [(&[&str], Settings); 9] = [
+    let lines: [(&[&str], Settings); 10] = [
         (&[], DEFAULTS),
         (&["--"], DEFAULTS),
         (
@@ -112,6 +111,13 @@ fn lines_and_their_settings(rt: HostRuntime) -> Result<(), Fail> {
             Settings {
                 mode: Mode::Sample,
                 number: 7,
+                ..DEFAULTS
+            },
+        ),
+        (
+            &["--mode", "reopt"],
+            Settings {
+                mode: Mode::Reopt,
                 ..DEFAULTS
             },
         ),

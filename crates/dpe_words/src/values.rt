@@ -9,7 +9,7 @@ use cost_model::ModelKind;
 use dpe_base::Kind;
 use plan_report::{Format, enumerator_name};
 
-/// The mode that the text names, `plan` where there is none. One whose layer isn't built has no name.
+/// The mode that the text names, `plan` where there is none.
 pub fn mode_of(text: Option<&str>) -> Option<Mode>
     ensures { result ≡ value_or Mode.Plan (meaning_in modes) (option_map (λ t. t.now) text.entry) }
 {
@@ -22,6 +22,7 @@ pub fn mode_of(text: Option<&str>) -> Option<Mode>
         Some("narrow") => Some(Mode::Narrow),
         Some("zigzag") => Some(Mode::Zigzag),
         Some("leftdeep") => Some(Mode::Leftdeep),
+        Some("reopt") => Some(Mode::Reopt),
         Some(_) => None,
     }
 }

@@ -142,8 +142,8 @@ fn has_refused(workload: &Workload) -> bool
     false
 }
 
-// The outcome of a workload's report.
-fn outcome_of(workload: &Workload) -> Outcome
+/// The outcome of a workload's report.
+pub fn outcome_of(workload: &Workload) -> Outcome
     ensures { result ≡ outcome_of workload.now }
 {
     if has_refused(workload) {

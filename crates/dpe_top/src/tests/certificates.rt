@@ -1,7 +1,9 @@
 //! Modes certify and check.
 use super::answer;
-use super::files::file_of;
+use super::files::{file_of, numbered_file};
+use super::plans::{BOTH, TRADE};
 use super::refusals::SPLIT_AND_EVEN;
+use super::shapes::clique_joins;
 use crate::Status;
 use std::alloc::{AllocError, Global};
 use std::test::Fail;
@@ -157,6 +159,100 @@ fn what_is_certified_is_optimal(rt: HostRuntime) -> Result<(), Fail> {
         assert_eq!(rt; checked, Status::Done, "{text}");
         assert_eq!(rt; verdicts.as_slice(), text.as_bytes(), "{text}");
     }
+    Ok(())
+}
+
+// A bushy plan, and a star whose centre is the largest table.
+fn small_files(alloc: Global) -> Result<(String, String), AllocError> {
+    let bushy = file_of(
+        alloc,
+        "bushy",
+        &[("a", 1000), ("b", 1000), ("c", 1000), ("d", 1000)],
+        &[
+            ("a", "b", 1, 100000),
+            ("b", "c", 1, 1),
+            ("c", "d", 1, 100000),
+        ],
+    )?;
+    let centre = file_of(
+        alloc,
+        "centre",
+        &[
+            ("a", 1 << 20),
+            ("b", 1 << 20),
+            ("c", 1 << 20),
+            ("f", 1 << 30),
+        ],
+        &[
+            ("a", "f", 1, 1 << 20),
+            ("b", "f", 1, 1 << 20),
+            ("c", "f", 1, 1 << 20),
+        ],
+    )?;
+    Ok((bushy, centre))
+}
+
+#[test]
+fn the_costs_of_reports_are_confirmed(rt: HostRuntime) -> Result<(), Fail> {
+    let alloc = rt.alloc();
+    let (bushy, centre) = small_files(alloc)?;
+    let clique = numbered_file(alloc, "clique", 8, 1, clique_joins(alloc, 8)?.as_slice())?;
+    let cout: &[&str] = &["--mode", "certify", "--model", "cout"];
+    let cases: [(&[&str], &str, &str); 7] = [
+        (
+            cout,
+            bushy.as_str(),
+            "query bushy\nverdict optimal cost 120\n",
+        ),
+        (
+            cout,
+            centre.as_str(),
+            "query centre\nverdict optimal cost 3221225472\n",
+        ),
+        (
+            CERTIFY,
+            clique.as_str(),
+            "query clique\nverdict optimal cost 14\n",
+        ),
+        (CERTIFY, TRADE, "query top\nverdict optimal cost 7160040\n"),
+        (CERTIFY, BOTH, "query both\nverdict optimal cost 4000\n"),
+        (cout, BOTH, "query both\nverdict optimal cost 1000\n"),
+        (CERTIFY, "{\"tables\":[],\"queries\":[]}", ""),
+    ];
+    for (words, file, text) in cases {
+        let (status, checked, verdicts) = certified_and_checked(&rt, alloc, words, file)?;
+        assert_eq!(rt; status, Status::Done, "{text}");
+        assert_eq!(rt; checked, Status::Done, "{text}");
+        assert_eq!(rt; verdicts.as_slice(), text.as_bytes(), "{text}");
+    }
+    Ok(())
+}
+
+#[test]
+fn thirteen_relations_are_not_certified(rt: HostRuntime) -> Result<(), Fail> {
+    let alloc = rt.alloc();
+    let joins = [
+        (0, 1),
+        (1, 2),
+        (2, 3),
+        (3, 4),
+        (4, 5),
+        (5, 6),
+        (6, 7),
+        (7, 8),
+        (8, 9),
+        (9, 10),
+        (10, 11),
+        (11, 12),
+    ];
+    let file = numbered_file(alloc, "chain", 13, 1, &joins)?;
+    let (status, checked, verdicts) = certified_and_checked(&rt, alloc, CERTIFY, file.as_str())?;
+    assert_eq!(rt; status, Status::SomeRefused);
+    assert_eq!(rt; checked, Status::Done);
+    assert_eq!(rt;
+        verdicts.as_slice(),
+        "query chain\nverdict none\n".as_bytes()
+    );
     Ok(())
 }
 
