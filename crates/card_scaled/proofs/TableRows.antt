@@ -12,8 +12,7 @@ use Rattle.dpe_base.specs.declared.query.QueryFault.{QueryFault}
 use Rattle.dpe_base.specs.Queries.{JoinQuery, IsQuery, relations, is_rel, is_pred, query_fault}
 use Rattle.dpe_base.specs.Sets.{Within, full}
 use Rattle.dpe_base.proofs.SizeLaws.{full_below}
-use Rattle.card_scaled.specs.Scaled.{ScaledNumber, rounded}
-use Rattle.card_scaled.specs.Cards.{RowTable, IsCardTable, card, rows}
+use Rattle.card_scaled.specs.Cards.{RowTable, IsCardTable, rows}
 use Rattle.card_scaled.specs.Sparse.{table_of}
 
 -- ---- the copy of a query has no fault
@@ -60,10 +59,3 @@ table_is q copy e = subst (λ c. IsCardTable q (table_of c)) (sym e) (record { s
 pub entry_is : (q : JoinQuery) (table : RowTable) (s r : ℕ) → table_of q ≡ table → Within s (full table.n) → r ≡ rows q s → r ≡ slice_index table.rows s
 entry_is q table s r e w h =
     h ∙ sym (row_of q s (subst (λ (n : ℕ). Within s (full n)) (sym (ap (λ t. t.n) e)) w)) ∙ ap (λ t. slice_index t.rows s) e
-
-rounded_card : (q : JoinQuery) (s : ℕ) → rounded (card q s) ≡ rows q s
-unfolding rows
-rounded_card q s = refl
-
-pub entry_by_card : (q : JoinQuery) (table : RowTable) (s r : ℕ) (c : ScaledNumber) → table_of q ≡ table → Within s (full table.n) → c ≡ card q s → r ≡ rounded c → r ≡ slice_index table.rows s
-entry_by_card q table s r c e w ec er = entry_is q table s r e w (er ∙ ap rounded ec ∙ rounded_card q s)

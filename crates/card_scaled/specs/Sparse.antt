@@ -27,9 +27,14 @@ pub record AreFactors (q : JoinQuery) (f : Factors) : Type 0 where
   pub bases : f.bases.items ≡ map base_of q.rels
   pub links : map (λ l. l.items) f.links.items ≡ map (links_up q) (range_with_len 0 (relations q))
 
--- a place is free, or has the set's number of rows before rounding
+-- the place has the set's number of rows, before rounding and after
+pub record HasNumbers (q : JoinQuery) (s : ℕ) (p : Place) : Type 0 where
+  pub card : p.card ≡ card q s
+  pub rows : p.rows ≡ rows q s
+
+-- a place is free, or has the numbers of its set
 abbrev pub HasCard : JoinQuery → Place → Type 0
-HasCard q p = p.set ≢ 0 → p.card ≡ card q p.set
+HasCard q p = p.set ≢ 0 → HasNumbers q p.set p
 
 abbrev pub AreCards : JoinQuery → List Place → Type 0
 AreCards q places = All (HasCard q) places

@@ -126,7 +126,7 @@ impl Factors {
         };
         let rest = s.minus(RelSet::single(r));
         let before = match known.find(rest) {
-            Some(c) => c,
+            Some(place) => place.card,
             None => self.card(query, known, rest),
         };
         self.with_relation(query, rest, before, r)

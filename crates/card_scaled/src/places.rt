@@ -1,7 +1,7 @@
 ghost use Rattle.std.specs.Prelude.{◌≡◌, ◌≤◌, ◌<◌, ◌^◌, length, IfOk, IfSome};
 ghost use Rattle.dpe_base.specs.Queries.{JoinQuery};
 ghost use Rattle.card_scaled.specs.Cards.{card};
-ghost use Rattle.card_scaled.specs.Sparse.{AreCards};
+ghost use Rattle.card_scaled.specs.Sparse.{AreCards, HasNumbers};
 
 use crate::scaled::Scaled;
 use dpe_base::RelSet;
@@ -14,9 +14,26 @@ pub struct Place {
     pub set: RelSet,
     /// Its number of rows before rounding.
     pub card: Scaled,
+    /// Its number of rows.
+    pub rows: u64,
 }
 
-/// Sets with their numbers of rows before rounding, found by their bits: a set stands at the first place that was free from its
+impl Place {
+    // The place of a set with this number of rows before rounding.
+    #[tactic(auto, unfolding(crate::specs::Cards::rows))]
+    fn of(s: RelSet, c: Scaled) -> Place
+        ensures set { result.set ≡ s }
+        ensures numbers { (q : JoinQuery) → c ≡ card q s → HasNumbers q s result }
+    {
+        Place {
+            set: s,
+            card: c,
+            rows: c.rows(),
+        }
+    }
+}
+
+/// Sets with their numbers of rows, found by their bits: a set stands at the first place that was free from its
 /// own one on.
 #[derive(Drop)]
 pub struct Places {
@@ -49,6 +66,7 @@ impl Places {
         let free = Place {
             set: RelSet::empty(),
             card: Scaled::one(),
+            rows: 1,
         };
         let items = vec![in alloc; free; size]?;
         Ok(Places {
@@ -65,9 +83,9 @@ impl Places {
         spread as usize & self.last
     }
 
-    /// The number that stands beside the set.
-    pub fn find(&self, s: RelSet) -> Option<Scaled>
-        ensures { (q : JoinQuery) → AreCards q self.now.items.items → IfSome result (λ c. c ≡ card q s) }
+    /// The place of the set.
+    pub fn find(&self, s: RelSet) -> Option<&Place>
+        ensures { (q : JoinQuery) → AreCards q self.now.items.items → IfSome result (λ p. HasNumbers q s p.now) }
     {
         let mut at = self.home(s);
         'places: for _ in 0..self.items.len() {
@@ -76,21 +94,21 @@ impl Places {
                 return None;
             }
             if place.set.bits() == s.bits() {
-                return Some(place.card);
+                return Some(place);
             }
             at = (at + 1) & self.last;
         }
         None
     }
 
-    /// Puts the number beside the set, if there is a free place.
+    /// Puts the set's numbers beside it, if there is a free place.
     pub fn put(&mut self, s: RelSet, c: Scaled)
         ensures { (q : JoinQuery) → AreCards q self.old.items.items → c ≡ card q s → AreCards q self.new.items.items }
     {
         let mut at = self.home(s);
         'places: for _ in 0..self.items.len() {
             if self.items[at].set.bits() == 0 {
-                self.items[at] = Place { set: s, card: c };
+                self.items[at] = Place::of(s, c);
                 return;
             }
             at = (at + 1) & self.last;

@@ -92,7 +92,7 @@ impl ConnectedRows {
         ensures cardinality { (q : JoinQuery) → IsCardTable q self.now → result ≡ rows q s }
     {
         match self.known.find(s) {
-            Some(card) => card.rows(),
+            Some(place) => place.rows,
             None => rows_once(&self.query, s),
         }
     }

@@ -30,7 +30,7 @@ with_relation-requires-clause-known t c =
 pub with_relation-requires-clause-near : goal.with_relation-requires-clause-near
 with_relation-requires-clause-near t c =
     let before : c.match-find.before ≡ card c.args.query.now c.minus-rest.result = elim c.match-find.branch [
-      | in-Some-find w ↦ w.before-is ∙ w.in-Some-find.ensures c.args.query.now c.requires.known
+      | in-Some-find w ↦ w.before-is ∙ (w.in-Some-find.ensures c.args.query.now c.requires.known).card
       | in-None w ↦ w.before-is ∙ w.card-before.ensures
     ] in
     before_near c.args.query.now c.recall.ensures c.args.s c.in-Some.r c.single.result c.minus-rest.result c.requires.within c.in-Some.ensures c.single.ensures c.minus-rest.ensures c.match-find.before before
@@ -38,7 +38,7 @@ with_relation-requires-clause-near t c =
 pub returns : goal.returns
 returns t c =
     let before : c.match-find.before ≡ card c.args.query.now c.minus-rest.result = elim c.match-find.branch [
-      | in-Some-find w ↦ w.before-is ∙ w.in-Some-find.ensures c.args.query.now c.requires.known
+      | in-Some-find w ↦ w.before-is ∙ (w.in-Some-find.ensures c.args.query.now c.requires.known).card
       | in-None w ↦ w.before-is ∙ w.card-before.ensures
     ] in
     card_by_rest c.args.query.now c.recall.ensures c.args.s c.in-Some.r c.single.result c.minus-rest.result c.requires.within c.in-Some.ensures c.single.ensures c.minus-rest.ensures c.match-find.before _ before c.with_relation.ensures

@@ -1,10 +1,10 @@
-use Rattle.card_scaled.proofs.TableRows.{entry_is, entry_by_card}
+use Rattle.card_scaled.proofs.TableRows.{entry_is}
 use Rattle.card_scaled.proofs.TableSteps.{table_rows}
 use Rattle.card_scaled.proofs.sparse.ConnectedRows.rows.Goals as goal
 
 pub returns-in-Some-clause-entry : goal.returns-in-Some-clause-entry
 returns-in-Some-clause-entry c =
-    entry_by_card c.self.inside.query c.args.self.now c.args.s _ c.in-Some.card c.self.view_is c.requires.within (c.in-Some.ensures c.self.inside.query c.self.invariant) c.rows.ensures
+    entry_is c.self.inside.query c.args.self.now c.args.s _ c.self.view_is c.requires.within (c.in-Some.ensures c.self.inside.query c.self.invariant).rows
 
 pub returns-in-Some-clause-cardinality : goal.returns-in-Some-clause-cardinality
 returns-in-Some-clause-cardinality c q =
