@@ -1,12 +1,11 @@
 -- A scan by skips looks at each free entry and at the first entry of each blocking prefix.
-use Rattle.std.proofs.Common.{◌≡◌, ◌≢◌, ◌↔◌, IsTrue, ℕ, zero, suc, ◌+◌, ◌-◌, ◌<◌, ◌≤◌, List, [], ◌∷◌, ◌++◌, length, take, slice_index, true, false, if◌then◌else◌, refl, sym, ◌∙◌, ap, subst, arith, inl, inr, ◌⊎◌, nat_cmp, nat_eq, add-suc, add-zero, get_or, Vec}
+use Rattle.std.proofs.Common.{◌≡◌, ◌≢◌, ◌↔◌, IsTrue, ℕ, zero, suc, ◌+◌, ◌-◌, ◌<◌, ◌≤◌, List, [], ◌∷◌, ◌++◌, length, take, slice_index, true, false, if◌then◌else◌, refl, sym, ◌∙◌, ap, subst, arith, inl, inr, ◌⊎◌, nat_cmp, nat_eq, add-suc, add-zero, get_or}
 use Rattle.std.specs.Cmp.Lexicographic.{pointwise, slice_cmp}
 use Rattle.std.specs.Cmp.{nat_cmp_is}
 use Rattle.std.specs.Ordering.{ordering_then}
 use Rattle.std.specs.declared.cmp.Ordering.TheVariants.{Less, Equal, Greater}
 use Rattle.std.proofs.lemmas.Bool.{cases_eq, cases_lt, ne_eqb, eq-eqb, false_from_ne_true, or_right, true≢false}
 use Rattle.dpe_base.specs.Sets.{member, Disjoint, Meets, inter, members, list_order}
-use Rattle.std.specs.declared.alloc.Global.{Global}
 use Rattle.std.proofs.Math.ListN.{get_or-append}
 use Rattle.std.proofs.lemmas.List.{get_or_push}
 use Rattle.std.proofs.lemmas.Slice.Eq.{bytes_eq-Decides}
@@ -14,6 +13,7 @@ use Rattle.dpe_base.proofs.SetLaws.{disjoint_by_inter}
 use Rattle.dpe_base.proofs.SizeLaws.{meets_by_inter, meets_true}
 use Rattle.dpe_base.proofs.ListOrder.{order_same}
 use Rattle.skip_vector.proofs.PrefixLaws.{HasIn, hasin_meets, up_to_here, up_to_later}
+use Rattle.skip_vector.specs.declared.column.Column.{Column}
 use Rattle.skip_vector.specs.Skips.{first_relations, up_to, blocking_prefix, is_free, IsPart, IsAfter, has_blocking_prefix, is_probed, probes, NoneFree, IsFirstFree, IsColumn, IsProbed}
 
 -- ---- lists
@@ -332,12 +332,12 @@ apart_in_part part i ok l e =
 pub not_meets : (s x : ℕ) → (Meets s x → ⊥) → Disjoint s x
 not_meets s x h r a b = h (r, a, b)
 
-pub columns_more : (part : List ℕ) (columns : List (Vec ℕ Global)) (v : Vec ℕ Global) (n : ℕ) → length columns ≡ n → ((p : ℕ) (d : Vec ℕ Global) → p < n → IsColumn part (p + 1) (get_or columns p d).items) → IsColumn part (n + 1) v.items → (p : ℕ) (d : Vec ℕ Global) → p < n + 1 → IsColumn part (p + 1) (get_or (columns ++ v ∷ []) p d).items
+pub columns_more : (part : List ℕ) (columns : List Column) (v : Column) (n : ℕ) → length columns ≡ n → ((p : ℕ) (d : Column) → p < n → IsColumn part (p + 1) (get_or columns p d)) → IsColumn part (n + 1) v → (p : ℕ) (d : Column) → p < n + 1 → IsColumn part (p + 1) (get_or (columns ++ v ∷ []) p d)
 columns_more part columns v n e all new p d l =
     elim (cases_lt p n) [
-      | inl lt ↦ subst (λ (c : Vec ℕ Global). IsColumn part (p + 1) c.items) (sym (get_or-append columns (v ∷ []) d p (omega arith))) (all p d lt)
+      | inl lt ↦ subst (λ (c : Column). IsColumn part (p + 1) c) (sym (get_or-append columns (v ∷ []) d p (omega arith))) (all p d lt)
       | inr ge ↦
           let k : p ≡ n = omega arith in
           let at_end : get_or (columns ++ v ∷ []) p d ≡ v = get_or_push columns v d p (omega arith) in
-          subst (λ (c : Vec ℕ Global). IsColumn part (p + 1) c.items) (sym at_end) (subst (λ j. IsColumn part (j + 1) v.items) (sym k) new)
+          subst (λ (c : Column). IsColumn part (p + 1) c) (sym at_end) (subst (λ j. IsColumn part (j + 1) v) (sym k) new)
     ]

@@ -1,8 +1,8 @@
 -- Prefixes of the ascending lists of sets, and the places of a part that a scan by skips looks at.
-use Rattle.std.specs.Prelude.{◌≡◌, ◌≢◌, ◌⊎◌, ℕ, zero, suc, ◌+◌, ◌-◌, ◌<◌, ◌≤◌, Bool, true, false, not, ◌||◌, ◌==◌, nat_eq, if◌then◌else◌, List, [], ◌∷◌, length, take, slice_index, get_or, Vec}
+use Rattle.std.specs.Prelude.{◌≡◌, ◌≢◌, ◌⊎◌, ℕ, zero, suc, ◌+◌, ◌-◌, ◌/◌, ◌<◌, ◌≤◌, Bool, true, false, not, ◌||◌, ◌==◌, nat_eq, nat_lt, if◌then◌else◌, List, [], ◌∷◌, length, take, slice_index, get_or}
 use Rattle.std.specs.Cmp.Lexicographic.{pointwise}
-use Rattle.std.specs.declared.alloc.Global.{Global}
 use Rattle.std.specs.declared.cmp.Ordering.TheVariants.{Less}
+use Rattle.skip_vector.specs.declared.column.Column.{Column}
 use Rattle.dpe_base.specs.Sets.{Disjoint, Meets, member, meets, size, members, list_order}
 
 -- the first p relations of a set
@@ -51,16 +51,24 @@ unfoldable pub probes : List ℕ → ℕ → ℕ → ℕ → ℕ
 probes part from x zero = 0
 probes part from x (suc n) = probes part from x n + (if is_probed part from x n then 1 else 0)
 
+-- where the run of entry i ends: at a distance below 255, or else where the run of the next block's first entry ends
+abbrev pub end_in : List ℕ → List ℕ → ℕ → ℕ
+end_in near far i = if nat_lt (slice_index near i) 255 then i + slice_index near i else slice_index far (i / 128 + 1)
+
+-- a place for each entry and, with one to spare, for each block of 128 of them
+abbrev pub HasPlaces : List ℕ → List ℕ → List ℕ → Type 0
+HasPlaces part near far = (length near ≡ length part) × (length far ≡ length part / 128 + 2)
+
 -- the places after each entry's prefix of length p
-pub record IsColumn (part : List ℕ) (p : ℕ) (column : List ℕ) : Type 0 where
-  pub sized : length column ≡ length part
-  pub each : (i : ℕ) → i < length part → IsAfter part i p (slice_index column i)
+pub record IsColumn (part : List ℕ) (p : ℕ) (c : Column) : Type 0 where
+  pub places : HasPlaces part c.near.items c.far.items
+  pub each : (i : ℕ) → i < length part → IsAfter part i p (end_in c.near.items c.far.items i)
 
 -- what a part with skip vectors keeps
-pub record IsSkipPart (part : List ℕ) (columns : List (Vec ℕ Global)) : Type 0 where
+pub record IsSkipPart (part : List ℕ) (columns : List Column) : Type 0 where
   pub is_part : IsPart part
   pub wide : 0 < length part → length columns ≡ size (slice_index part 0)
-  pub each : (p : ℕ) (d : Vec ℕ Global) → p < length columns → IsColumn part (p + 1) (get_or columns p d).items
+  pub each : (p : ℕ) (d : Column) → p < length columns → IsColumn part (p + 1) (get_or columns p d)
 
 -- no entry from `from` on and before `upto` is disjoint from x
 abbrev pub NoneFree : List ℕ → ℕ → ℕ → ℕ → Type 0

@@ -7,6 +7,7 @@
 //! [`SkipPart`] has the entries and their vectors. `laws` says which entries are looked at.
 #![tactic(auto)]
 
+mod column;
 pub mod laws;
 mod prefix;
 mod scan;

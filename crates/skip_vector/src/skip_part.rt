@@ -1,8 +1,8 @@
 ghost use Rattle.std.specs.Prelude.{◌≡◌, ◌≤◌, ◌<◌, ◌+◌, length, slice_index, IfOk};
 ghost use Rattle.dpe_base.specs.Sets.{size};
-ghost use Rattle.skip_vector.specs.Skips.{IsPart, IsAfter, IsColumn};
+ghost use Rattle.skip_vector.specs.Skips.{IsPart, IsAfter};
 
-use crate::prefix::same_first;
+use crate::column::Column;
 use dpe_base::{RelSet, Steps};
 use std::alloc::{AllocError, Global};
 use std::marker::Model;
@@ -15,7 +15,7 @@ use std::sync::ledger::Ledger;
 #[derive(Drop)]
 pub struct SkipPart {
     entries: Vec<RelSet>,
-    columns: Vec<Vec<usize>>,
+    columns: Vec<Column>,
 }
 
 impl Model for SkipPart {
@@ -27,35 +27,6 @@ impl Model for SkipPart {
     ghost view = { λ p. p.entries.items };
 
     ghost invariant = { λ p. IsSkipPart p.entries.items p.columns.items };
-}
-
-// The place after the prefix at `i`, from the one at the next place.
-fn place_after(entries: &[RelSet], i: usize, len: u32, later: usize) -> usize
-    requires part { IsPart entries.now }
-    requires place { i + 1 < length entries.now }
-    requires later { IsAfter entries.now (i + 1) len later }
-    ensures { IsAfter entries.now i len result }
-{
-    if same_first(entries[i + 1], entries[i], len) {
-        later
-    } else {
-        i + 1
-    }
-}
-
-// For each entry the next one with other first `len` relations.
-fn column(alloc: Global, entries: &[RelSet], len: u32) -> Result<Vec<usize>, AllocError>
-    requires { IsPart entries.now }
-    ensures { IfOk result (λ v. IsColumn entries.now len v.items) }
-{
-    let count = entries.len();
-    let mut column = vec![in alloc; count; count]?;
-    for back in 1..count {
-        let i = count - 1 - back;
-        let later = column[i + 1];
-        column[i] = place_after(entries, i, len, later);
-    }
-    Ok(column)
 }
 
 // The size of the sets of a part.
@@ -76,9 +47,16 @@ impl SkipPart {
         let entries = Vec::from_slice(alloc, part)?;
         let mut columns = Vec::new(alloc);
         for p in 0..size_of(part) {
-            columns.push(column(alloc, part, p + 1)?)?;
+            columns.push(Column::make(alloc, part, p + 1)?)?;
         }
         Ok(SkipPart { entries, columns })
+    }
+
+    /// The entries.
+    pub fn entries(&self) -> &[RelSet]
+        ensures { result.now ≡ self.now }
+    {
+        self.entries.as_slice()
     }
 
     /// How many entries there are.
@@ -106,6 +84,6 @@ impl SkipPart {
         requires few { prefix_len ≤ size (slice_index self.now i) }
         ensures { IsAfter self.now i prefix_len result }
     {
-        self.columns[prefix_len - 1][i]
+        self.columns[prefix_len - 1].end(i)
     }
 }
