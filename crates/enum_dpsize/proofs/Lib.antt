@@ -1,3 +1,4 @@
+pub mod Neighbourhoods
 pub mod RowLaws
 pub mod PartLists
 pub mod ScanLaws

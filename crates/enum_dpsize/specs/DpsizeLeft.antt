@@ -3,9 +3,10 @@ use Rattle.std.specs.Prelude.{ℕ, suc, ◌+◌, ◌*◌, ◌≤◌, ◌<◌, �
 use Rattle.std.specs.List.{range_with_len, flat_map}
 use Rattle.dpe_base.specs.declared.TheConstants.{N_MAX}
 use Rattle.dpe_base.specs.declared.pair.Pair.{Pair}
-use Rattle.join_graph.specs.Graphs.{JoinGraph, IsGraph}
+use Rattle.join_graph.specs.Graphs.{JoinGraph, IsGraph, IsNeighbours}
 use Rattle.pair_stream.specs.Parts.{part, parts_of}
 use Rattle.enum_dpsize.specs.declared.cursor.Cursor.{Cursor}
+use Rattle.enum_dpsize.specs.declared.pairs.Neighbourhood.{Neighbourhood}
 use Rattle.enum_dpsize.specs.Dpsize.{pairs_with, row_pairs, pairs_sized}
 
 -- as `row_pairs`, the first set with the second sets from place j on
@@ -51,3 +52,8 @@ pub record IsCursor (g : JoinGraph) (c : Cursor) : Type 0 where
 pub record IsDpsizeState (g : JoinGraph) (parts : List (List ℕ)) (c : Cursor) : Type 0 where
   pub cursor : IsCursor g c
   pub made : parts ≡ parts_of g
+
+-- the neighbourhood is that of x
+pub record IsOf (g : JoinGraph) (x : ℕ) (h : Neighbourhood) : Type 0 where
+  pub set : h.set ≡ x
+  pub around : IsNeighbours g x h.around

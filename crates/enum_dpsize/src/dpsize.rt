@@ -1,13 +1,13 @@
 ghost use Rattle.std.specs.Prelude.{refl, ◌≡◌, List, drop, All};
 ghost use Rattle.dpe_base.specs.declared.pair.Pair.{Pair};
-ghost use Rattle.join_graph.specs.Graphs.{Connected};
+ghost use Rattle.join_graph.specs.Graphs.{Connected, IsNeighbours};
 ghost use Rattle.pair_stream.specs.Orders.{Ordered, Complete};
 ghost use Rattle.pair_stream.specs.Parts.{parts_of};
 ghost use Rattle.pair_stream.specs.Streams.{Takes};
 ghost use Rattle.enum_dpsize.specs.Dpsize.{pairs_with, seq_dpsize};
 
 use crate::cursor::Cursor;
-use crate::pairs::{is_joinable, pair_by_least};
+use crate::pairs::{Neighbourhood, is_joinable, pair_by_least};
 use dpe_base::{Pair, RelSet, Steps};
 use join_graph::Graph;
 use pair_stream::{PairStream, Parts};
@@ -24,28 +24,30 @@ pub struct DpSize<'a> {
     graph: Graph,
     parts: &'a Parts,
     cursor: Cursor,
+    at: Neighbourhood,
 }
 
 impl<'a> Model for DpSize<'a> {
     ghost use Rattle.std.specs.Prelude.{List};
     ghost use Rattle.dpe_base.specs.declared.pair.Pair.{Pair};
-    ghost use Rattle.enum_dpsize.specs.DpsizeLeft.{left_at, IsDpsizeState};
+    ghost use Rattle.enum_dpsize.specs.DpsizeLeft.{IsDpsizeState, IsOf, left_at};
 
     ghost Value = { List Pair };
 
     ghost view = { λ s. left_at s.graph s.cursor };
 
-    ghost invariant = { λ s. IsDpsizeState s.graph s.parts.now s.cursor };
+    ghost invariant = { λ s. IsDpsizeState s.graph s.parts.now s.cursor × IsOf s.graph s.at.set s.at };
 }
 
 // The next pair of `x` with one of the sets from `next` on.
-fn next_in_row(graph: &Graph, x: RelSet, ys: &[RelSet], next: &mut usize) -> Option<Pair>
-    requires x { Connected graph.now x }
+fn next_in_row(graph: &Graph, at: Neighbourhood, ys: &[RelSet], next: &mut usize) -> Option<Pair>
+    requires x { Connected graph.now at.set }
+    requires around { IsNeighbours graph.now at.set at.around }
     requires ys { All (Connected graph.now) ys.now }
-    ensures { Takes (pairs_with graph.now (drop next.old ys.now) x) (pairs_with graph.now (drop next.new ys.now) x) result }
+    ensures { Takes (pairs_with graph.now (drop next.old ys.now) at.set) (pairs_with graph.now (drop next.new ys.now) at.set) result }
 {
     graph.recall();
-    let around = graph.neighbours(x);
+    let Neighbourhood { set: x, around } = at;
     'row: while *next < ys.len() {
         let y = ys[*next];
         *next += 1;
@@ -73,6 +75,7 @@ impl<'a> DpSize<'a> {
             graph: *graph,
             parts,
             cursor: Cursor::first(graph),
+            at: Neighbourhood::of(graph, RelSet::empty()),
         }
     }
 }
@@ -94,7 +97,9 @@ impl<'a> PairStream for DpSize<'a> {
             let ys = self.parts.part(self.cursor.size - self.cursor.small);
             if self.cursor.row < xs.len() {
                 let x = xs[self.cursor.row];
-                if let Some(p) = next_in_row(&self.graph, x, ys, &mut self.cursor.next) {
+                self.at = self.at.turned_to(&self.graph, x);
+                let next = &mut self.cursor.next;
+                if let Some(p) = next_in_row(&self.graph, self.at, ys, next) {
                     return Some(p);
                 }
                 self.cursor.next_row();

@@ -1,5 +1,5 @@
 ghost use Rattle.std.specs.Prelude.{◌≡◌, ◌+◌, ◌^◌, ◌<◌, ◌≤◌, length, drop, All, IsNone};
-ghost use Rattle.join_graph.specs.Graphs.{Connected};
+ghost use Rattle.join_graph.specs.Graphs.{Connected, IsNeighbours};
 ghost use Rattle.pair_stream.specs.Orders.{Ordered, Complete};
 ghost use Rattle.pair_stream.specs.Parts.{parts_of};
 ghost use Rattle.pair_stream.specs.Streams.{Takes};
@@ -8,7 +8,7 @@ ghost use Rattle.enum_dpsize.specs.Dpsize.{pairs_with, seq_dpsize};
 ghost use Rattle.enum_dpsize.specs.Dpsva.{dpsva_probes};
 
 use crate::cursor::Cursor;
-use crate::pairs::{is_joinable, pair_by_least};
+use crate::pairs::{Neighbourhood, is_joinable, pair_by_least};
 use crate::skip_parts::SkipParts;
 use dpe_base::{Pair, RelSet, Steps};
 use join_graph::Graph;
@@ -26,12 +26,13 @@ pub struct DpSva<'a> {
     graph: Graph,
     parts: &'a SkipParts,
     cursor: Cursor,
+    at: Neighbourhood,
     probes: u64,
 }
 
 impl<'a> Model for DpSva<'a> {
     ghost use Rattle.std.specs.Prelude.{◌+◌};
-    ghost use Rattle.enum_dpsize.specs.DpsizeLeft.{left_at};
+    ghost use Rattle.enum_dpsize.specs.DpsizeLeft.{IsOf, left_at};
     ghost use Rattle.enum_dpsize.specs.Dpsva.{CountedStream};
     ghost use Rattle.enum_dpsize.specs.DpsvaLeft.{IsDpsvaState, probes_at};
 
@@ -39,29 +40,30 @@ impl<'a> Model for DpSva<'a> {
 
     ghost view = { λ s. record { pairs = left_at s.graph s.cursor; probed = s.probes; total = s.probes + probes_at s.graph s.cursor } };
 
-    ghost invariant = { λ s. IsDpsvaState s.graph s.parts.now s.cursor s.probes };
+    ghost invariant = { λ s. IsDpsvaState s.graph s.parts.now s.cursor s.probes × IsOf s.graph s.at.set s.at };
 }
 
 // The next pair of `x` with one of the entries from `next` on.
 fn next_in_row<L: Ledger>(
     graph: &Graph,
-    x: RelSet,
+    at: Neighbourhood,
     ys: &SkipPart,
     next: &mut usize,
     probes: &mut u64,
     steps: &mut Steps<L>,
 ) -> Option<Pair>
-    requires x { Connected graph.now x }
+    requires x { Connected graph.now at.set }
+    requires around { IsNeighbours graph.now at.set at.around }
     requires ys { All (Connected graph.now) ys.now }
-    requires room { probes.old + probes_from ys.now next.old x < 2 ^ 64 }
-    ensures pair { Takes (pairs_with graph.now (drop next.old ys.now) x) (pairs_with graph.now (drop next.new ys.now) x) result }
-    ensures probes { probes.new + probes_from ys.now next.new x ≡ probes.old + probes_from ys.now next.old x }
+    requires room { probes.old + probes_from ys.now next.old at.set < 2 ^ 64 }
+    ensures pair { Takes (pairs_with graph.now (drop next.old ys.now) at.set) (pairs_with graph.now (drop next.new ys.now) at.set) result }
+    ensures probes { probes.new + probes_from ys.now next.new at.set ≡ probes.old + probes_from ys.now next.old at.set }
     ensures end { IsNone result → length ys.now ≤ next.new }
     ensures steps { steps.new + probes.old ≡ steps.old + probes.new }
     ensures forward { steps.old ≤ steps.new }
 {
     graph.recall();
-    let around = graph.neighbours(x);
+    let Neighbourhood { set: x, around } = at;
     'row: while *next < ys.len() {
         let free = ys.next_free(*next, x, steps);
         match free.found {
@@ -97,6 +99,7 @@ impl<'a> DpSva<'a> {
             graph: *graph,
             parts,
             cursor: Cursor::first(graph),
+            at: Neighbourhood::of(graph, RelSet::empty()),
             probes: 0,
         }
     }
@@ -119,8 +122,9 @@ impl<'a> PairStream for DpSva<'a> {
             let ys = self.parts.skips(self.cursor.size - self.cursor.small);
             if self.cursor.row < xs.len() {
                 let x = xs[self.cursor.row];
+                self.at = self.at.turned_to(&self.graph, x);
                 let (next, probes) = (&mut self.cursor.next, &mut self.probes);
-                if let Some(p) = next_in_row(&self.graph, x, ys, next, probes, steps) {
+                if let Some(p) = next_in_row(&self.graph, self.at, ys, next, probes, steps) {
                     return Some(p);
                 }
                 self.cursor.next_row();

@@ -7,21 +7,18 @@ use skip_vector::SkipPart;
 use std::alloc::{AllocError, Global};
 use std::marker::Model;
 
-/// The connected sets of a join graph by size: each part as a plain list and with skip vectors.
+/// The connected sets of a join graph by size, each part with skip vectors.
 #[derive(Drop)]
 pub struct SkipParts {
-    lists: Vec<Vec<RelSet>>,
-    skips: Vec<SkipPart>,
+    parts: Vec<SkipPart>,
 }
 
 impl Model for SkipParts {
-    ghost use Rattle.std.specs.Prelude.{◌≡◌, ℕ, List, map};
+    ghost use Rattle.std.specs.Prelude.{ℕ, List};
 
     ghost Value = { List (List ℕ) };
 
-    ghost view = { λ p. map (λ v. v.items) p.lists.items };
-
-    ghost invariant = { λ p. p.skips.items ≡ map (λ v. v.items) p.lists.items };
+    ghost view = { λ p. p.parts.items };
 }
 
 impl SkipParts {
@@ -34,24 +31,21 @@ impl SkipParts {
     {
         // a relation alone is connected
         let n = parts.part(1).len();
-        let mut lists = Vec::new(alloc);
-        let mut skips = Vec::new(alloc);
+        let mut all = Vec::new(alloc);
         for k in 0..n {
             let part = parts.part(k as u32 + 1);
-            let list = Vec::from_slice(alloc, part)?;
             let skip = SkipPart::make(alloc, part)?;
-            lists.push(list)?;
-            skips.push(skip)?;
+            all.push(skip)?;
         }
-        Ok(SkipParts { lists, skips })
+        Ok(SkipParts { parts: all })
     }
 
-    /// The connected sets of that many relations as a plain list.
+    /// The connected sets of that many relations.
     pub(crate) fn list(&self, size: u32) -> &[RelSet]
         requires { (1 ≤ size) × (size ≤ length self.now) }
         ensures { result.now ≡ slice_index_or self.now (size - 1) result.now }
     {
-        self.lists[size as usize - 1].as_slice()
+        self.parts[size as usize - 1].entries()
     }
 
     /// The connected sets of that many relations with their skip vectors.
@@ -59,6 +53,6 @@ impl SkipParts {
         requires { (1 ≤ size) × (size ≤ length self.now) }
         ensures { result.now ≡ slice_index_or self.now (size - 1) result.now }
     {
-        &self.skips[size as usize - 1]
+        &self.parts[size as usize - 1]
     }
 }

@@ -1,5 +1,5 @@
-use Rattle.std.proofs.Common.{◌≡◌, ◌<◌, ◌+◌, ◌-◌, ◌++◌, ◌∷◌, [], ◌∙◌, ap, arith, map, length, get_or, ℕ, List}
-use Rattle.std.proofs.lemmas.List.{map-append, take_all}
+use Rattle.std.proofs.Common.{◌≡◌, ◌<◌, ◌+◌, ◌-◌, ◌++◌, ◌∷◌, [], ◌∙◌, ap, arith, length, get_or, ℕ, List}
+use Rattle.std.proofs.lemmas.List.{take_all}
 use Rattle.enum_dpsize.proofs.PartLists.{first_known, parts_few, count_is, parts_can_skip, part_added}
 use Rattle.enum_dpsize.proofs.skip_parts.SkipParts.make.Goals as goal
 
@@ -33,16 +33,11 @@ loop-k-preserved c =
     let n : length c.part-n.result.now ≡ length parts = count_is parts c.part-n.result.now c.requires c.part-n.ensures in
     let l : c.loop-k.k < length parts = omega (arith, n) in
     let k : c.loop-k.k + 1 - 1 ≡ c.loop-k.k = omega arith in
-    let read : xs ≡ get_or parts c.loop-k.k xs = c.part-part.ensures ∙ ap (λ i. get_or parts i xs) k in (
-      part_added parts c.loop-k.k (map (λ v. v.items) c.loop-k.lists.items) (map (λ v. v.items) c.push.new.self.items) xs c.loop-k.invariant.0 l read
-          (ap (map (λ v. v.items)) c.in_ok-push.ensures.items
-          ∙ map-append (λ v. v.items) c.loop-k.lists.items (c.in_ok-list.list ∷ [])
-          ∙ ap (λ (ys : List ℕ). map (λ v. v.items) c.loop-k.lists.items ++ ys ∷ []) c.in_ok-list.ensures.items),
-      part_added parts c.loop-k.k c.loop-k.skips.items c.push-in-loop-k.new.self.items xs c.loop-k.invariant.1 l read
-          (c.in_ok-push-2.ensures.items ∙ ap (λ (ys : List ℕ). c.loop-k.skips.items ++ ys ∷ []) c.in_ok-skip.ensures),
-    )
+    let read : xs ≡ get_or parts c.loop-k.k xs = c.part-part.ensures ∙ ap (λ i. get_or parts i xs) k in
+    part_added parts c.loop-k.k c.loop-k.all.items c.push.new.self.items xs c.loop-k.invariant l read
+    (c.in_ok-push.ensures.items ∙ ap (λ (ys : List ℕ). c.loop-k.all.items ++ ys ∷ []) c.in_ok-skip.ensures)
 
 pub returns : goal.returns
 returns c =
     let n : length c.part-n.result.now ≡ length c.args.parts.now = count_is c.args.parts.now c.part-n.result.now c.requires c.part-n.ensures in
-    c.loop-k.invariant.0 ∙ take_all c.loop-k.k c.args.parts.now (omega (arith, n))
+    c.loop-k.invariant ∙ take_all c.loop-k.k c.args.parts.now (omega (arith, n))
