@@ -19,7 +19,7 @@ use Rattle.query_json.specs.declared.entry.Part.{Part}
 use Rattle.query_json.specs.declared.entry.Part.TheVariants.{Accepted}
 use Rattle.query_forms.specs.declared.changes.Change.{Change}
 use Rattle.query_forms.specs.Changes.{AreRelationsOf, IsWithin}
-use Rattle.reopt.specs.Touching.{touching}
+use Rattle.enum_dpccp.specs.Touching.{touching}
 use Rattle.reopt.specs.Keeping.{touched_pairs}
 use Rattle.reopt.proofs.OtherSets.{same_graph}
 use Rattle.plan_report.specs.declared.report.Format.TheVariants.{Text}

@@ -1,4 +1,4 @@
-use super::DpCcp;
+use super::{DpCcp, DpCcpTouching};
 use dpe_base::{N_MAX, Pair, Pred, Query, Rel};
 use join_graph::Graph;
 use pair_stream::{DpSub, collect_pairs};
@@ -154,6 +154,72 @@ fn pairs_of_graphs_by_digits(rt: HostRuntime) -> Result<(), Fail> {
                 expected.as_slice(),
                 "{n} relations, {digits}"
             );
+        }
+    }
+    Ok(())
+}
+
+// The pairs of the list whose union has the relation.
+fn with_relation(alloc: Global, pairs: &[Pair], r: u8) -> Result<Vec<Pair>, AllocError> {
+    let mut all = Vec::new(alloc);
+    for p in pairs {
+        if p.a.union(p.b).has(r) {
+            all.push(*p)?;
+        }
+    }
+    Ok(all)
+}
+
+// The first relation whose touching pairs aren't those of the whole list, in its order.
+fn first_other(alloc: Global, g: &Graph) -> Result<Option<u8>, AllocError> {
+    g.recall();
+    let all = collect_pairs(alloc, &mut DpCcp::over(g))?;
+    for r in 0..g.n() {
+        let touching = collect_pairs(alloc, &mut DpCcpTouching::over(g, r))?;
+        if touching.as_slice() != with_relation(alloc, &all, r)?.as_slice() {
+            return Ok(Some(r));
+        }
+    }
+    Ok(None)
+}
+
+#[test]
+fn pairs_that_a_relation_touches(rt: HostRuntime) -> Result<(), Fail> {
+    for n in 2..9u8 {
+        for shape in [Shape::Chain, Shape::Cycle, Shape::Star, Shape::Clique] {
+            let g = graph(rt.alloc(), n, shape)?;
+            assert_eq!(rt; first_other(rt.alloc(), &g)?, None, "{n} relations");
+        }
+    }
+    let mut digits = 1u32;
+    for _ in 0..8 {
+        for n in 2..9u8 {
+            digits = digits.wrapping_mul(1664525).wrapping_add(1013904223);
+            let g = graph(rt.alloc(), n, Shape::Digits(digits >> 4))?;
+            assert_eq!(rt;
+                first_other(rt.alloc(), &g)?,
+                None,
+                "{n} relations, {digits}"
+            );
+        }
+    }
+    Ok(())
+}
+
+// A leaf of a star of 16 touches 131,072 of its 245,760 pairs, and the end of a chain of 16 touches 120 of 680.
+#[test]
+fn touched_pairs_of_known_graphs(rt: HostRuntime) -> Result<(), Fail> {
+    for (shape, r, count) in [
+        (Shape::Star, 3u8, 131_072),
+        (Shape::Star, 15, 245_760),
+        (Shape::Chain, 15, 120),
+        (Shape::Chain, 0, 120),
+    ] {
+        let g = graph(rt.alloc(), 16, shape)?;
+        g.recall();
+        if r < g.n() {
+            let touching = collect_pairs(rt.alloc(), &mut DpCcpTouching::over(&g, r))?;
+            assert_eq!(rt; touching.len(), count);
         }
     }
     Ok(())

@@ -18,7 +18,7 @@ use Rattle.join_tree.specs.Trees.{Least, Made, IsEmptyOrMade}
 use Rattle.join_tree.proofs.BestLaws.{least_best, empty_never_made}
 use Rattle.dpe_engine.specs.Engines.{EnginePlan, SeededPlan, IsKnown, MayStandBefore, IsRest}
 use Rattle.dpe_engine.proofs.Ends.{all_rest}
-use Rattle.reopt.specs.Touching.{touches, touching}
+use Rattle.enum_dpccp.specs.Touching.{touches, touching}
 use Rattle.reopt.specs.Keeping.{IsBestWord, KeepsOthers}
 use Rattle.reopt.specs.Offers.{HasOffered}
 use Rattle.reopt.proofs.WordOffers.{not_both}

@@ -14,7 +14,7 @@ use Rattle.reorder_buffer.specs.Groups.{rounds}
 use Rattle.enum_dpccp.specs.Dpccp.{seq_dpccp}
 use Rattle.dpe_engine.specs.declared.engine.Solved.{Solved}
 use Rattle.dpe_engine.specs.Engines.{EnginePlan, IsLeastWord, HasProcessed, IsSolved}
-use Rattle.reopt.specs.Touching.{touching}
+use Rattle.enum_dpccp.specs.Touching.{touching}
 use Rattle.reopt.specs.Keeping.{IsBestWord, AreBestWords, IsPlanned, IsReplanned, touched_pairs}
 use Rattle.reopt.specs.Laws.{LeastWordsCanBeKept}
 

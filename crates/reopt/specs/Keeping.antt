@@ -11,7 +11,7 @@ use Rattle.pair_stream.specs.Orders.{Complete}
 use Rattle.enum_dpccp.specs.Dpccp.{seq_dpccp}
 use Rattle.reorder_buffer.specs.Groups.{rounds}
 use Rattle.dpe_engine.specs.declared.engine.Solved.{Solved}
-use Rattle.reopt.specs.Touching.{touching}
+use Rattle.enum_dpccp.specs.Touching.{touching}
 
 -- the query, and its words
 pub record KeptWords : Type 0 where

@@ -1,4 +1,3 @@
-pub mod Touching
 pub mod Keeping
 pub mod Laws
 pub mod Offers

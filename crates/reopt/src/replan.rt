@@ -8,11 +8,10 @@ ghost use Rattle.dpe_engine.specs.Engines.{IsSolved};
 ghost use Rattle.reopt.specs.Keeping.{KeepsOthers, IsReplanned};
 
 use crate::offers::offer_others;
-use crate::touching::Touching;
 use cost_model::CostModel;
 use dpe_base::{BUFFER_MAX, Query, WORKERS_MAX};
 use dpe_engine::{Engine, Gate, SeededEngine, Solved};
-use enum_dpccp::DpCcp;
+use enum_dpccp::{DpCcp, DpCcpTouching};
 use join_graph::Graph;
 use memo_table::Words;
 use std::alloc::{AllocError, Global};
@@ -65,7 +64,8 @@ pub(crate) fn replan<M: CostModel, G: Gate, R: Threads + Sync>(
     ensures { IfOk result (IsReplanned M.KIND query.now settings.now.r settings.now.buffer settings.now.workers) }
 {
     let n = query.n();
-    let all = DpCcp::over(&Graph::of(query));
+    let graph = Graph::of(query);
+    let all = DpCcp::over(&graph);
     let mut engine = SeededEngine::prepare(
         alloc,
         query,
@@ -75,7 +75,7 @@ pub(crate) fn replan<M: CostModel, G: Gate, R: Threads + Sync>(
         &all,
     )?;
     offer_others(&mut engine, kept.row(), n, settings.r);
-    let touching = Touching::over(all, settings.r);
+    let touching = DpCcpTouching::over(&graph, settings.r);
     let (solved, _) = engine.run(rt, touching, gate);
     Ok(solved)
 }

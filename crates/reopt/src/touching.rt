@@ -1,5 +1,5 @@
 ghost use Rattle.std.specs.Prelude.{◌≡◌, ◌<◌};
-ghost use Rattle.reopt.specs.Touching.{touches, touching};
+ghost use Rattle.enum_dpccp.specs.Touching.{touches, touching};
 
 use dpe_base::{Pair, Steps};
 use pair_stream::{Filtered, PairStream, PairTest};
@@ -12,7 +12,7 @@ struct Touches {
 }
 
 impl PairTest for Touches {
-    ghost use Rattle.reopt.specs.Touching.{touches};
+    ghost use Rattle.enum_dpccp.specs.Touching.{touches};
 
     ghost passes = { λ s p. touches s.r p };
 
@@ -43,7 +43,7 @@ impl<P: PairStream> Touching<P> {
 
 impl<P: PairStream> PairStream for Touching<P> {
     ghost use Rattle.pair_stream.specs.Filters.{ended_filter};
-    ghost use Rattle.reopt.specs.Touching.{touches};
+    ghost use Rattle.enum_dpccp.specs.Touching.{touches};
 
     ghost left = { λ s. ⟦<Filtered<P, Touches> as PairStream>⟧.left s.pairs };
 

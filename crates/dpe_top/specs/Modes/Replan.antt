@@ -14,7 +14,7 @@ use Rattle.query_json.specs.declared.entry.Part.TheVariants.{Accepted, Refused}
 use Rattle.query_forms.specs.declared.changes.Change.{Change}
 use Rattle.query_forms.specs.declared.changes.Changed.{Changed}
 use Rattle.query_forms.specs.Changes.{changed_of}
-use Rattle.reopt.specs.Touching.{touching}
+use Rattle.enum_dpccp.specs.Touching.{touching}
 use Rattle.plan_report.specs.declared.report.Format.TheVariants.{Text}
 use Rattle.plan_report.specs.Entries.{PlannedQuery}
 use Rattle.plan_report.specs.Texts.{newline, planned_text, refused_text}
