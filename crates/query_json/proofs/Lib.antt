@@ -1,3 +1,4 @@
+pub mod Apart
 pub mod Binds
 pub mod Finds
 pub mod DecimalLaws

@@ -4,11 +4,9 @@ use Rattle.std.specs.List.{list_any}
 use Rattle.std.specs.Str.{bytes_eq}
 use Rattle.std.proofs.lemmas.Bool.{cases_Bool}
 use Rattle.query_json.specs.declared.file.Table.{Table}
-use Rattle.query_json.specs.declared.file.RelationItem.{RelationItem}
 use Rattle.query_json.specs.Names.{distinct_after, distinct_names}
 use Rattle.query_json.specs.Entries.{table_names}
 use Rattle.query_json.specs.Entries.{or_table_twice}
-use Rattle.query_json.specs.Queries.{aliases_of, or_alias_twice}
 
 after_labels : {T : Type 0} (label : T → List ℕ) (met names : List (List ℕ)) (ts : List T) → distinct_after label met ts ≡ Ok names → names ≡ met ++ map label ts
 after_labels label met names [] e = let same : met ≡ names = cc in sym same ∙ sym (append-nil met)
@@ -28,12 +26,5 @@ not_table : (r : Result (List (List ℕ)) (List ℕ)) (names : List (List ℕ)) 
 not_table (Ok x) names e = let same : x ≡ names = cc in ap Ok same
 not_table (Err x) names e = absurd cc
 
-not_alias : (r : Result (List (List ℕ)) (List ℕ)) (names : List (List ℕ)) → or_alias_twice r ≡ Ok names → r ≡ Ok names
-not_alias (Ok x) names e = let same : x ≡ names = cc in ap Ok same
-not_alias (Err x) names e = absurd cc
-
 pub table_names_are : (ts : List Table) (names : List (List ℕ)) → table_names ts ≡ Ok names → names ≡ map (λ t. t.name) ts
 table_names_are ts names e = distinct_labels (λ t. t.name) names ts (not_table (distinct_names (λ t. t.name) ts) names e)
-
-pub aliases_are : (rs : List RelationItem) (names : List (List ℕ)) → aliases_of rs ≡ Ok names → names ≡ map (λ r. r.alias) rs
-aliases_are rs names e = distinct_labels (λ r. r.alias) names rs (not_alias (distinct_names (λ r. r.alias) rs) names e)

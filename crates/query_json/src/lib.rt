@@ -2,11 +2,11 @@
 //!
 //! Begin at [`read`], or at [`read_value`] where the file is there as a value already. The bytes become a tree of JSON over
 //! the file's own text (`walk/tree.rt`); a [`serde_json::Value`] is a tree as it stands, and `walk/node.rt` is what the walk asks of
-//! either. The walk (`walk.rt`) goes through it site by site, stops at the first place that breaks the format, and gives what
-//! the file says with no name looked up (`file.rt`). Then each query is looked up over the tables (`tables.rt`, `query.rt`):
-//! every name once, pass by pass, so that the first refusal in the order of [`QueryRefusal`] decides. `specs/Entries` says the
-//! same in a page, `specs/Walk` what may stand where, and `specs/Decimals` what a decimal text means. What holds of each
-//! accepted entry, and in what sense a fault or a refusal is the first, stands in [`laws`].
+//! either. [`tree_of`] and [`read_node`] serve who wants this tree too. The walk (`walk.rt`) goes through it site by site, stops at
+//! the first place that breaks the format, and gives what the file says with no name looked up (`file.rt`). Then each query is
+//! looked up over the tables (`tables.rt`, `query.rt`): every name once, pass by pass, so that the first refusal in the order of
+//! [`QueryRefusal`] decides. `specs/Entries` says the same in a page, `specs/Walk` what may stand where, and `specs/Decimals` what a
+//! decimal text means. What holds of each accepted entry, and in what sense a fault or a refusal is the first, stands in [`laws`].
 #![tactic(auto)]
 
 mod entry;
@@ -33,8 +33,10 @@ pub use items::Items;
 pub use place::{Place, Site};
 pub use refusal::{FracPlace, QueryRefusal};
 pub use text::{write_path, write_refusal};
+pub use walk::node::Node;
+pub use walk::tree::tree_of;
 pub use walk::{is_name, ratio_of};
-pub use workload::{Workload, read, read_value};
+pub use workload::{Workload, read, read_node, read_value};
 
 /// The most bytes of a name.
 pub const NAME_MAX: usize = 128;

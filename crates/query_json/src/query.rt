@@ -1,19 +1,18 @@
 //! What a query of the file means, pass by pass: each pass finds the refusals of one kind.
 ghost use Rattle.std.specs.Prelude.{◌<◌, map};
 ghost use Rattle.query_json.specs.Answer.{Tells};
-ghost use Rattle.query_json.specs.Queries.{aliases_of, apart, checked, each_of, filter_of, fraction_at, pred_over, rel_over, selectivity_over, sized, table_of};
+ghost use Rattle.query_json.specs.Queries.{apart, checked, each_of, filter_of, fraction_at, pred_over, rel_over, selectivity_over, sized, table_of};
 
+pub mod aliases;
 pub mod entries;
 pub mod scope;
 
 use crate::file::{JoinItem, Ratio, RelationItem};
-use crate::names::{HasName, Repeat, distinct};
 use crate::query::scope::Ends;
 use crate::refusal::{FracPlace, QueryRefusal, Stop};
 use crate::tables::Tables;
 use crate::tables::known_table::KnownTable;
 use dpe_base::{INPUT_CAP, N_MAX, Pred, Rel};
-use indexmap::IndexSet;
 use std::alloc::Global;
 
 /// Refuses a query without relations, or with more than [`N_MAX`].
@@ -27,28 +26,6 @@ pub fn check_size(relations: &[RelationItem]) -> Result<(), Stop>
         return Err(Stop::Refused(QueryRefusal::TooManyRelations(relations.len() as u64)));
     }
     Ok(())
-}
-
-impl<'a> HasName for RelationItem<'a> {
-    ghost label = { λ r. r.alias };
-
-    fn name(&self) -> &str {
-        self.alias.text()
-    }
-}
-
-/// The alias of each relation, at the relation's number. It refuses an alias that stands twice.
-pub fn alias_names<'t, 'a>(
-    alloc: Global,
-    relations: &'t [RelationItem<'a>],
-) -> Result<IndexSet<&'t str>, Stop>
-    ensures { Tells (λ s. map (λ k. k.now) s.keys) result (aliases_of relations.entry.now) }
-{
-    match distinct(alloc, relations) {
-        Ok(names) => Ok(names),
-        Err(Repeat::NoMemory) => Err(Stop::NoMemory),
-        Err(Repeat::Name(name)) => Err(Stop::Refused(QueryRefusal::DuplicateAlias(name))),
-    }
 }
 
 fn table_of<'t, 'a>(

@@ -1,7 +1,7 @@
 //! The walk through a file, site by site.
 ghost use Rattle.std.specs.Prelude.{◌≡◌, ℕ, IfOk, Result, map, option_map};
 ghost use Rattle.serde_json.specs.Data.{Data};
-ghost use Rattle.serde_json.specs.View.{items_of, view};
+ghost use Rattle.serde_json.specs.View.{items_of};
 ghost use Rattle.query_json.specs.declared.fault.FileFault.{FileFault};
 ghost use Rattle.query_json.specs.declared.file.Version.{Version};
 ghost use Rattle.query_json.specs.declared.file.Version.TheVariants.{Two};
@@ -27,7 +27,6 @@ use crate::walk::fields::{
 };
 use crate::walk::node::Node;
 use dpe_base::{INPUT_CAP, PREDS_MAX};
-use serde_json::Value;
 use std::alloc::Global;
 
 fn place(site: Site, i: u64, j: u64) -> Place
@@ -284,8 +283,8 @@ pub fn file_at<'v, N: Node>(alloc: Global, root: &'v N) -> Result<File<'v>, File
 
 /// The fraction that a filter or a selectivity in version 2 means: an array of two whole numbers, or a decimal text. None where
 /// the value is neither.
-pub fn ratio_of(value: &Value) -> Option<Ratio>
-    ensures { result ≡ as_ratio Two (view value.now) }
+pub fn ratio_of<N: Node>(node: &N) -> Option<Ratio>
+    ensures { result ≡ as_ratio Two (N.as_data node.now) }
 {
-    as_ratio(Version::Two, value)
+    as_ratio(Version::Two, node)
 }

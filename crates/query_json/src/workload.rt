@@ -68,8 +68,13 @@ fn count(file: &File) -> Result<(), FileFault>
     Ok(())
 }
 
+/// Reads a workload that is there as a tree already, by its root: [`read`] of a text is this of what
+/// [`tree_of`](crate::tree_of) gives.
+///
+/// Fails with the first fault of the tree, in the order of [`read`], and never as not JSON. Fails also where there is no
+/// memory.
 #[tactic(auto, unfolding(crate::specs::Entries::entries_of_value))]
-fn workload_of<N: Node>(alloc: Global, root: &N) -> Result<Workload, FileFault>
+pub fn read_node<N: Node>(alloc: Global, root: &N) -> Result<Workload, FileFault>
     ensures { Gives result (entries_of_value (N.as_data root.now)) }
 {
     let file = file_at(alloc, root)?;
@@ -89,7 +94,7 @@ pub fn read(alloc: Global, bytes: &[u8]) -> Result<Workload, FileFault>
 {
     let mut scratch = Scratch::new(alloc);
     let root = tree_of(alloc, bytes, &mut scratch)?;
-    workload_of(alloc, &root)
+    read_node(alloc, &root)
 }
 
 /// Reads a workload that is there as a value already: what [`read`] gives for a text of this value.
@@ -99,5 +104,5 @@ pub fn read(alloc: Global, bytes: &[u8]) -> Result<Workload, FileFault>
 pub fn read_value(alloc: Global, value: &Value) -> Result<Workload, FileFault>
     ensures { Gives result (entries_of_value (view value.now)) }
 {
-    workload_of(alloc, value)
+    read_node(alloc, value)
 }

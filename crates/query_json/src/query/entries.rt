@@ -13,8 +13,9 @@ ghost use Rattle.query_json.specs.Queries.Unreached.{first_unreached};
 use crate::entry::{Entry, Named, Part};
 use crate::file::{QueryItem, RelationItem};
 use crate::items::Items;
+use crate::query::aliases::check_aliases;
 use crate::query::scope::Scope;
-use crate::query::{alias_names, check_apart, check_size, known_tables};
+use crate::query::{check_apart, check_size, known_tables};
 use crate::refusal::{QueryRefusal, Stop};
 use crate::tables::Tables;
 use dpe_base::{Name, Pred, Query, Rel};
@@ -22,7 +23,7 @@ use join_graph::Graph;
 use std::alloc::{AllocError, Global};
 
 // The query's two lists.
-#[tactic(auto, unfolding(crate::specs::Queries::query_of), using(crate::proofs::NameLaws::aliases_are))]
+#[tactic(auto, unfolding(crate::specs::Queries::query_of))]
 fn lists_of<'t, 'a>(
     alloc: Global,
     tables: &'t Tables<'t, 'a>,
@@ -34,9 +35,9 @@ fn lists_of<'t, 'a>(
 {
     let relations = item.relations.as_slice();
     check_size(relations)?;
-    let aliases = alias_names(alloc, relations)?;
+    check_aliases(alloc, relations)?;
     let known = known_tables(alloc, tables, relations)?;
-    let scope = Scope::new(tables, item, aliases, known);
+    let scope = Scope::new(tables, item, known);
     let ends = scope.all_ends(alloc)?;
     let distinct = scope.all_distinct(alloc, ends.as_slice())?;
     check_apart(alloc, item.joins.as_slice())?;

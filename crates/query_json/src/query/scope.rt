@@ -7,13 +7,12 @@ ghost use Rattle.query_json.specs.Queries.{all_of, count_of, each_of, ends_of, m
 
 use crate::file::{JoinItem, QueryItem};
 use crate::label::Label;
-use crate::names::place_of;
+use crate::query::aliases::number_of;
 use crate::query::{pred_over, rel_over};
 use crate::refusal::{QueryRefusal, Stop};
 use crate::tables::Tables;
 use crate::tables::known_table::KnownTable;
 use dpe_base::{N_MAX, PREDS_MAX, Pred, Rel};
-use indexmap::IndexSet;
 use std::alloc::Global;
 use std::marker::Model;
 
@@ -26,12 +25,11 @@ pub struct Ends {
     pub right: usize,
 }
 
-/// A query over the tables of the file, with the alias and the table of each relation at its number.
+/// A query over the tables of the file, with the table of each relation at its number.
 #[derive(Drop)]
 pub struct Scope<'t, 'a> {
     tables: &'t Tables<'t, 'a>,
     item: &'t QueryItem<'a>,
-    aliases: IndexSet<&'t str>,
     known: Vec<&'t KnownTable<'t, 'a>>,
 }
 
@@ -45,8 +43,7 @@ impl<'t, 'a> Model for Scope<'t, 'a> {
 
     ghost view = { λ s. record { tables = s.tables.now; item = s.item.now } };
 
-    ghost invariant = { λ s. (map (λ k. k.now) s.aliases.keys ≡ map (λ r. r.alias) s.item.now.relations)
-        × (each_of (table_of s.tables.now) s.item.now.relations ≡ Ok (map (λ t. t.now) s.known.items))
+    ghost invariant = { λ s. (each_of (table_of s.tables.now) s.item.now.relations ≡ Ok (map (λ t. t.now) s.known.items))
         × (length s.item.now.relations ≤ N_MAX) };
 }
 
@@ -55,18 +52,15 @@ impl<'t, 'a> Scope<'t, 'a> {
     pub fn new(
         tables: &'t Tables<'t, 'a>,
         item: &'t QueryItem<'a>,
-        aliases: IndexSet<&'t str>,
         known: Vec<&'t KnownTable<'t, 'a>>,
     ) -> Scope<'t, 'a>
         requires few { length item.now.relations ≤ N_MAX }
-        requires aliases { map (λ k. k.now) aliases.keys ≡ map (λ r. r.alias) item.now.relations }
         requires known { each_of (table_of tables.now) item.now.relations ≡ Ok (map (λ t. t.now) known.items) }
         ensures { result ≡ record { tables = tables.entry.now; item = item.entry.now } }
     {
         Scope {
             tables,
             item,
-            aliases,
             known,
         }
     }
@@ -74,7 +68,7 @@ impl<'t, 'a> Scope<'t, 'a> {
     fn number(&self, alloc: Global, alias: &Label) -> Result<usize, Stop>
         ensures { Tells (λ n. n) result (relation_number self.now.item.relations (UnknownAlias alias.now) alias.now) }
     {
-        match place_of(&self.aliases, alias.text()) {
+        match number_of(self.item.relations.as_slice(), alias.text()) {
             Some(number) => Ok(number),
             None => {
                 let alias = alias.to_name(alloc)?;

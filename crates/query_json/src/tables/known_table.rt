@@ -9,15 +9,18 @@ use indexmap::IndexMap;
 use std::alloc::{AllocError, Global};
 use std::marker::Model;
 
-/// A table and the distinct count of each of its columns by name, which contracts see as the table.
+// Of a table with more columns, the names stand in a map.
+const SCANNED_MAX: usize = 32;
+
+/// A table and, where it has many columns, the distinct count of each by name. Contracts see it as the table.
 #[derive(Drop)]
 pub struct KnownTable<'t, 'a> {
     table: &'t Table<'a>,
-    counts: IndexMap<&'t str, u64>,
+    counts: Option<IndexMap<&'t str, u64>>,
 }
 
 impl<'t, 'a> Model for KnownTable<'t, 'a> {
-    ghost use Rattle.std.specs.Prelude.{◌≡◌, ℕ, List};
+    ghost use Rattle.std.specs.Prelude.{◌≡◌, ℕ, List, IfSome};
     ghost use Rattle.std.specs.Str.{bytes_eq};
     ghost use Rattle.indexmap.specs.IndexMap.{get_by};
     ghost use Rattle.query_json.specs.declared.file.Table.{Table};
@@ -27,7 +30,7 @@ impl<'t, 'a> Model for KnownTable<'t, 'a> {
 
     ghost view = { λ t. t.table.now };
 
-    ghost invariant = { λ t. (q : List ℕ) → get_by (λ k. bytes_eq q k.now) t.counts ≡ distinct_in q t.table.now.columns };
+    ghost invariant = { λ t. IfSome t.counts (λ m. (q : List ℕ) → get_by (λ k. bytes_eq q k.now) m ≡ distinct_in q t.table.now.columns) };
 }
 
 fn column_counts<'t, 'a>(
@@ -48,12 +51,31 @@ fn column_counts<'t, 'a>(
     Ok(counts)
 }
 
+// The distinct count of the first column of a name, looking at one column after the other.
+fn distinct_in(columns: &[Column], name: &str) -> Option<u64>
+    ensures { result ≡ distinct_in name.now columns.now }
+{
+    for column in columns {
+        if name == column.name.text() {
+            return Some(column.distinct);
+        }
+    }
+    None
+}
+
 impl<'t, 'a> KnownTable<'t, 'a> {
     /// The table, which may have two columns of one name.
     pub fn new(alloc: Global, table: &'t Table<'a>) -> Result<KnownTable<'t, 'a>, AllocError>
         ensures { IfOk result (λ t. t ≡ table.entry.now) }
     {
-        let counts = column_counts(alloc, table.columns.as_slice())?;
+        let columns = table.columns.as_slice();
+        if columns.len() <= SCANNED_MAX {
+            return Ok(KnownTable {
+                table,
+                counts: None,
+            });
+        }
+        let counts = Some(column_counts(alloc, columns)?);
         Ok(KnownTable { table, counts })
     }
 
@@ -68,6 +90,9 @@ impl<'t, 'a> KnownTable<'t, 'a> {
     pub fn distinct(&self, column: &str) -> Option<u64>
         ensures { result ≡ distinct_in column.now self.now.columns }
     {
-        self.counts.get(column).copied()
+        match &self.counts {
+            Some(counts) => counts.get(column).copied(),
+            None => distinct_in(self.table.columns.as_slice(), column),
+        }
     }
 }

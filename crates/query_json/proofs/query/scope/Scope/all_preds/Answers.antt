@@ -24,7 +24,7 @@ pred_over-requires-clause-left c =
     let j = c.index-joins-at.result in
     let same : c.as_slice-joins.result.now ≡ c.args.self.now.item.joins = rw (← c.self.view_is) c.as_slice-joins.ensures in
     let e : each_of (ends_of rs) c.as_slice-joins.result.now ≡ Ok c.args.ends.now = rw same c.requires.ends in
-    let few : length rs ≤ N_MAX = rw (← c.self.view_is) c.self.invariant.2 in
+    let few : length rs ≤ N_MAX = rw (← c.self.view_is) c.self.invariant.1 in
     let are = are_ends rs j _ (each_or (ends_of rs) c.as_slice-joins.result.now c.args.ends.now c.loop-at.at j (record { left = 0; right = 0 }) e c.loop-at-test.true c.index-joins-at.is) in
     omega (arith, alias_known rs j.left _ are.left, few)
 
@@ -34,7 +34,7 @@ pred_over-requires-clause-right c =
     let j = c.index-joins-at.result in
     let same : c.as_slice-joins.result.now ≡ c.args.self.now.item.joins = rw (← c.self.view_is) c.as_slice-joins.ensures in
     let e : each_of (ends_of rs) c.as_slice-joins.result.now ≡ Ok c.args.ends.now = rw same c.requires.ends in
-    let few : length rs ≤ N_MAX = rw (← c.self.view_is) c.self.invariant.2 in
+    let few : length rs ≤ N_MAX = rw (← c.self.view_is) c.self.invariant.1 in
     let are = are_ends rs j _ (each_or (ends_of rs) c.as_slice-joins.result.now c.args.ends.now c.loop-at.at j (record { left = 0; right = 0 }) e c.loop-at-test.true c.index-joins-at.is) in
     omega (arith, alias_known rs j.right _ are.right, few)
 
