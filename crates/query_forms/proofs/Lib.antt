@@ -1,3 +1,4 @@
+pub mod WrittenTokens
 pub mod Again
 pub mod Alike
 pub mod ByteLaws

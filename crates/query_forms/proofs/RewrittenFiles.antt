@@ -1,14 +1,12 @@
 -- A rewritten file has no fault and the same entries, and is itself when it is rewritten again.
-use Rattle.std.proofs.Common.{◌≡◌, ◌≤◌, ℕ, List, Some, IsUtf8, arith, Result, Ok, Err, refl, sym, ap, ◌∙◌, subst}
-use Rattle.serde_json.specs.Data.{Data, depth}
-use Rattle.serde_json.specs.Read.{max_depth, read}
+use Rattle.std.proofs.Common.{◌≡◌, ℕ, List, Result, Ok, Err, refl, sym, ap, ◌∙◌, subst}
+use Rattle.serde_json.specs.Data.{Data}
 use Rattle.serde_json.specs.Written.{compact_text}
 use Rattle.query_json.specs.declared.entry.Entry.{Entry}
 use Rattle.query_json.specs.declared.fault.FileFault.{FileFault}
 use Rattle.query_json.specs.Answer.{◌>>=◌}
 use Rattle.query_json.specs.Entries.{entries_of, entries_of_value}
-use Rattle.query_json.specs.Walk.{json_at, json_of, or_not_json}
-use Rattle.query_json.proofs.JsonLaws.{json_text}
+use Rattle.query_json.specs.Walk.{json_at}
 use Rattle.query_forms.specs.Forms.{rewritten_file}
 use Rattle.query_forms.specs.Laws.{RewritingAgainChangesNothing, RewrittenValuesHoldTheSame}
 use Rattle.query_forms.specs.Rewriting.{rewritten, rewritten_text}
@@ -40,10 +38,6 @@ again_the_same d new e =
 
 -- ---- texts
 
-pub value_at : (bytes : List ℕ) (d : Data) → json_of bytes ≡ Some d → json_at bytes ≡ Ok d
-unfolding json_at
-value_at bytes d e = ap or_not_json e
-
 -- a text that reads as what was rewritten holds the same entries
 pub texts_hold_the_same : (bytes text : List ℕ) (d new : Data) → json_at bytes ≡ Ok d → json_at text ≡ Ok new → rewritten d ≡ Ok new
     → (entries : List Entry) × (entries_of bytes ≡ Ok entries) × (entries_of text ≡ Ok entries)
@@ -59,7 +53,3 @@ text_stays text d new after e same =
     ap (λ r. r >>= λ v. rewritten v >>= λ w. Ok (compact_text w)) after
     ∙ ap (λ r. r >>= λ w. Ok (compact_text w)) (again_the_same d new e)
     ∙ ap Ok (sym same)
-
--- the text of a value that nests few levels deep reads as that value
-pub reads_as : (text : List ℕ) (new : Data) → IsUtf8 text → (depth new ≤ max_depth → read text ≡ Some new) → depth new ≤ 6 → json_at text ≡ Ok new
-reads_as text new utf8 back few = json_text text utf8 ∙ ap or_not_json (back (omega (arith, few)))

@@ -6,8 +6,10 @@ use Rattle.serde_json.specs.Data.{Data, depth}
 use Rattle.serde_json.specs.Read.{read}
 use Rattle.serde_json.specs.Written.{compact_text}
 use Rattle.query_json.specs.declared.entry.Entry.{Entry}
+use Rattle.std.specs.Result.{IsErrAnd}
 use Rattle.query_json.specs.declared.fault.FileFault.{FileFault}
-use Rattle.query_json.specs.Answer.{◌>>=◌}
+use Rattle.query_json.specs.declared.fault.FileFault.TheVariants.{DuplicateTable, NoMemory, NotJson, Shape, TooManyQueries, TooManyTables}
+use Rattle.query_json.specs.Answer.{◌>>=◌, Fails, GivesBy}
 use Rattle.query_json.specs.Entries.{entries_of, entries_of_value}
 use Rattle.query_json.specs.Walk.{json_at, or_not_json}
 use Rattle.query_json.proofs.Binds.{bind_ok, ok_same}
@@ -56,7 +58,7 @@ texts_stay bytes text e =
     let back : json_at text ≡ Ok p.1 = subst (λ (t : List ℕ). json_at t ≡ Ok p.1) p.4 (reads_again bytes p.0 p.1 p.2 p.3) in
     text_stays text p.0 p.1 back p.3 (sym p.4)
 
-rewrites : (bytes : List ℕ) (entries : List Entry) (d : Data) → json_at bytes ≡ Ok d → entries_of_value d ≡ Ok entries
+pub rewrites : (bytes : List ℕ) (entries : List Entry) (d : Data) → json_at bytes ≡ Ok d → entries_of_value d ≡ Ok entries
     → (rewritten d ≡ Ok (rewritten_file d)) × (rewritten_text bytes ≡ Ok (compact_text (rewritten_file d)))
 unfolding rewritten rewritten_text
 rewrites bytes entries d e is =
@@ -73,6 +75,45 @@ texts_keep bytes entries e =
     let held = texts_hold_the_same bytes text d (rewritten_file d) value.1 (reads_again bytes d (rewritten_file d) value.1 new.0) new.0 in
     let same : held.0 ≡ entries = ok_same held.0 entries (sym held.1 ∙ e) in
     (text, new.1, held.2 ∙ ap Ok same)
+
+pub holds_the_same : (bytes text : List ℕ) (entries : List Entry) (d : Data) → json_at bytes ≡ Ok d → entries_of_value d ≡ Ok entries → rewritten_text bytes ≡ Ok text
+    → (entries : List Entry) × (entries_of bytes ≡ Ok entries) × (entries_of text ≡ Ok entries)
+unfolding entries_of
+holds_the_same bytes text entries d e is gives =
+    let read : entries_of bytes ≡ Ok entries = ap (λ r. r >>= entries_of_value) e ∙ is in
+    let kept = texts_keep bytes entries read in
+    let same : kept.0 ≡ text = one_text (rewritten_text bytes) kept.0 text kept.1 gives in
+    (entries, read, subst (λ (t : List ℕ). entries_of t ≡ Ok entries) same kept.2)
+  where
+    one_text : (r : Result (List ℕ) FileFault) (a b : List ℕ) → r ≡ Ok a → r ≡ Ok b → a ≡ b
+    one_text (Ok x) a b e f =
+        let p : x ≡ a = cc in
+        let q : x ≡ b = cc in
+        sym p ∙ q
+    one_text (Err x) a b e f = absurd cc
+
+-- a fault of the entries is one of the text
+pub fault_of_text : (bytes : List ℕ) (d : Data) (why : FileFault) → json_at bytes ≡ Ok d → Fails why (entries_of_value d) → Fails why (rewritten_text bytes)
+unfolding rewritten rewritten_text
+fault_of_text bytes d why e = at why
+  where
+    by : (f : FileFault) → entries_of_value d ≡ Err f → rewritten_text bytes ≡ Err f
+    by f is =
+        ap (λ r. r >>= λ v. rewritten v >>= λ new. Ok (compact_text new)) e
+        ∙ ap (λ r. (r >>= λ es. Ok (rewritten_file d)) >>= λ new. Ok (compact_text new)) is
+
+    at : (f : FileFault) → Fails f (entries_of_value d) → Fails f (rewritten_text bytes)
+    at NoMemory is = tt
+    at NotJson is = by NotJson is
+    at (Shape p) is = by (Shape p) is
+    at TooManyTables is = by TooManyTables is
+    at TooManyQueries is = by TooManyQueries is
+    at (DuplicateTable n) is = by (DuplicateTable n) is
+
+-- and it is what `?` hands on
+pub handed_on : {X : Type 0} (seen : X → List ℕ) (r : Result X FileFault) (why : FileFault) (said : Result (List ℕ) FileFault) → IsErrAnd r (λ e. e ≡ why) → Fails why said → GivesBy seen r said
+handed_on seen (Ok x) why said h fails = absurd h
+handed_on seen (Err e) why said h fails = subst (λ (k : FileFault). Fails k said) (sym h) fails
 
 pub same_faults : RewritingHasTheFaultsOfReading
 unfolding entries_of rewritten rewritten_text

@@ -3,3 +3,4 @@ pub mod Forms
 pub mod Fractions
 pub mod Laws
 pub mod Rewriting
+pub mod Tokens

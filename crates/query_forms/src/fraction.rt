@@ -1,11 +1,14 @@
 //! Fractions, written as decimal texts where these say them exactly.
 ghost use Rattle.std.specs.Prelude.{◌≡◌, ◌+◌, ◌^◌, ◌≤◌, ◌<◌, ◌++◌, ◌==◌, [], ◌∷◌, IfOk, OnOk, find, option_map, string_bytes};
 ghost use Rattle.std.specs.List.{range_with_len};
+ghost use Rattle.serde_json.specs.Find.{get};
 ghost use Rattle.serde_json.specs.View.{view};
 ghost use Rattle.query_forms.specs.Forms.{fraction_in};
 ghost use Rattle.query_forms.specs.Fractions.{decimal_places, decimal_text, fraction_data, last_digits, most_places, pair_of};
+ghost use Rattle.query_forms.specs.Tokens.{tokens_of, tokens_of_member};
 
-use query_json::{DECIMALS_MAX, Ratio, ratio_of};
+use crate::text::Text;
+use query_json::{DECIMALS_MAX, Node, Ratio, ratio_of};
 use serde_json::Value;
 use std::alloc::{AllocError, Global};
 
@@ -102,4 +105,46 @@ pub fn fraction_in(alloc: Global, member: Option<&Value>) -> Result<Option<Value
         Some(ratio) => Ok(Some(fraction_value(alloc, ratio)?)),
         None => Ok(None),
     }
+}
+
+fn write_pair(out: &mut Text, ratio: Ratio) -> Result<(), AllocError>
+    ensures { OnOk result (out.new ≡ out.old ++ tokens_of (pair_of ratio)) }
+{
+    out.begin_array()?;
+    out.number(ratio.num)?;
+    out.number(ratio.den)?;
+    out.end_array()
+}
+
+#[tactic(auto, unfolding(crate::specs::Fractions::fraction_data))]
+fn write_ratio(alloc: Global, out: &mut Text, ratio: Ratio) -> Result<(), AllocError>
+    ensures { OnOk result (out.new ≡ out.old ++ tokens_of (fraction_data ratio)) }
+{
+    match decimal_places(ratio) {
+        Some(places) => {
+            let text = decimal_text(alloc, places, ratio)?;
+            out.string(&text)
+        }
+        None => write_pair(out, ratio),
+    }
+}
+
+/// Writes the member of a name, where a fraction stands at it.
+pub fn write_fraction<N: Node>(
+    alloc: Global,
+    out: &mut Text,
+    name: &str,
+    node: &N,
+) -> Result<(), AllocError>
+    ensures { OnOk result (out.new
+        ≡ out.old ++ tokens_of_member name.now (fraction_in (get name.now (N.as_data node.now)))) }
+{
+    let Some(member) = node.member(name) else {
+        return Ok(());
+    };
+    let Some(ratio) = ratio_of(member) else {
+        return Ok(());
+    };
+    out.key(name)?;
+    write_ratio(alloc, out, ratio)
 }

@@ -16,6 +16,7 @@ mod objects;
 mod rewriting;
 #[cfg(test)]
 mod tests;
+mod text;
 
 pub use changes::{Change, ChangeFault, Changed, read_changes};
 pub use rewriting::{rewrite, rewritten};

@@ -1,10 +1,16 @@
 //! The objects of a file, each written with its members of the format alone.
-ghost use Rattle.std.specs.Prelude.{◌≡◌, IfOk};
+ghost use Rattle.std.specs.Prelude.{◌≡◌, ◌++◌, IfOk, OnOk, Some, codes};
+ghost use Rattle.serde_json.specs.Data.{number, unsigned};
 ghost use Rattle.serde_json.specs.View.{view};
 ghost use Rattle.query_forms.specs.Forms.{rewritten_column, rewritten_file, rewritten_join, rewritten_query, rewritten_relation, rewritten_table};
+ghost use Rattle.query_forms.specs.Tokens.{tokens_of, tokens_of_member};
 
-use crate::fraction::fraction_in;
-use crate::members::{Object, count_in, list_in, put_member, text_in};
+use crate::fraction::{fraction_in, write_fraction};
+use crate::members::{
+    Object, count_in, list_in, put_member, text_in, write_count, write_list, write_text,
+};
+use crate::text::Text;
+use query_json::Node;
 use serde_json::{Map, Value};
 use std::alloc::{AllocError, Global};
 
@@ -40,6 +46,15 @@ impl Object for Column {
         put_member(&mut members, alloc, "distinct", distinct)?;
         Ok(Value::Object(members))
     }
+
+    #[tactic(auto)]
+    fn write<N: Node>(alloc: Global, out: &mut Text, node: &N) -> Result<(), AllocError> {
+        out.begin_object()?;
+        write_count(out, "distinct", node)?;
+        write_text(out, "name", node)?;
+        out.end_object()?;
+        Ok(())
+    }
 }
 
 impl Object for Table {
@@ -56,6 +71,16 @@ impl Object for Table {
         put_member(&mut members, alloc, "rows", rows)?;
         Ok(Value::Object(members))
     }
+
+    #[tactic(auto)]
+    fn write<N: Node>(alloc: Global, out: &mut Text, node: &N) -> Result<(), AllocError> {
+        out.begin_object()?;
+        write_list::<Column, N>(alloc, out, "columns", node)?;
+        write_text(out, "name", node)?;
+        write_count(out, "rows", node)?;
+        out.end_object()?;
+        Ok(())
+    }
 }
 
 impl Object for Relation {
@@ -71,6 +96,16 @@ impl Object for Relation {
         let table = text_in(alloc, value.get("table"))?;
         put_member(&mut members, alloc, "table", table)?;
         Ok(Value::Object(members))
+    }
+
+    #[tactic(auto)]
+    fn write<N: Node>(alloc: Global, out: &mut Text, node: &N) -> Result<(), AllocError> {
+        out.begin_object()?;
+        write_text(out, "alias", node)?;
+        write_fraction(alloc, out, "filter", node)?;
+        write_text(out, "table", node)?;
+        out.end_object()?;
+        Ok(())
     }
 }
 
@@ -92,6 +127,18 @@ impl Object for Join {
         put_member(&mut members, alloc, "selectivity", selectivity)?;
         Ok(Value::Object(members))
     }
+
+    #[tactic(auto)]
+    fn write<N: Node>(alloc: Global, out: &mut Text, node: &N) -> Result<(), AllocError> {
+        out.begin_object()?;
+        write_text(out, "left", node)?;
+        write_text(out, "left_column", node)?;
+        write_text(out, "right", node)?;
+        write_text(out, "right_column", node)?;
+        write_fraction(alloc, out, "selectivity", node)?;
+        out.end_object()?;
+        Ok(())
+    }
 }
 
 impl Object for Query {
@@ -108,6 +155,16 @@ impl Object for Query {
         put_member(&mut members, alloc, "relations", relations)?;
         Ok(Value::Object(members))
     }
+
+    #[tactic(auto)]
+    fn write<N: Node>(alloc: Global, out: &mut Text, node: &N) -> Result<(), AllocError> {
+        out.begin_object()?;
+        write_list::<Join, N>(alloc, out, "joins", node)?;
+        write_text(out, "name", node)?;
+        write_list::<Relation, N>(alloc, out, "relations", node)?;
+        out.end_object()?;
+        Ok(())
+    }
 }
 
 /// A whole file in version 2.
@@ -122,4 +179,23 @@ pub fn rewritten_file(alloc: Global, value: &Value) -> Result<Value, AllocError>
     put_member(&mut members, alloc, "tables", tables)?;
     serde_json::put(&mut members, alloc, "version", Value::from(2u64))?;
     Ok(Value::Object(members))
+}
+
+fn write_version(out: &mut Text) -> Result<(), AllocError>
+    ensures { OnOk result (out.new ≡ out.old ++ tokens_of_member (codes "version") (Some (number (unsigned 2)))) }
+{
+    out.key("version")?;
+    out.number(2)
+}
+
+/// Writes a whole file in version 2.
+pub fn write_file<N: Node>(alloc: Global, out: &mut Text, node: &N) -> Result<(), AllocError>
+    ensures { OnOk result (out.new ≡ out.old ++ tokens_of (rewritten_file (N.as_data node.now))) }
+{
+    out.begin_object()?;
+    write_list::<Query, N>(alloc, out, "queries", node)?;
+    write_list::<Table, N>(alloc, out, "tables", node)?;
+    write_version(out)?;
+    out.end_object()?;
+    Ok(())
 }

@@ -8,9 +8,10 @@ ghost use Rattle.query_json.specs.Answer.{GivesBy};
 ghost use Rattle.query_json.specs.Entries.{entries_of};
 ghost use Rattle.query_forms.specs.Rewriting.{rewritten, rewritten_text};
 
-use crate::bytes::value_of;
-use crate::objects::rewritten_file;
-use query_json::{FileFault, read_value};
+use crate::objects::{rewritten_file, write_file};
+use crate::text::Text;
+use json::Scratch;
+use query_json::{FileFault, read_node, read_value, tree_of};
 use serde_json::Value;
 use std::alloc::Global;
 
@@ -39,9 +40,10 @@ pub fn rewrite(alloc: Global, bytes: &[u8]) -> Result<Vec<u8>, FileFault>
     ensures same { IfOk result (λ text. (entries : List Entry) × (entries_of bytes.now ≡ Ok entries) × (entries_of text.items ≡ Ok entries)) }
     ensures again { IfOk result (λ text. rewritten_text text.items ≡ Ok text.items) }
 {
-    let Some(value) = value_of(alloc, bytes)? else {
-        return Err(FileFault::NotJson);
-    };
-    let new = rewritten(alloc, &value)?;
-    Ok(new.to_vec(alloc)?)
+    let mut scratch = Scratch::new(alloc);
+    let root = tree_of(alloc, bytes, &mut scratch)?;
+    read_node(alloc, &root)?;
+    let mut out = Text::with_capacity(alloc, bytes.len())?;
+    write_file(alloc, &mut out, &root)?;
+    Ok(out.into_bytes())
 }
