@@ -16,7 +16,7 @@ use std::alloc::AllocError;
 use std::thread::{Threads, for_each_mut};
 
 // The tables of the queries that are planned at the same time have no more sets of relations than this, all together: eight queries
-// of twenty relations. A set takes some 34 bytes in them, and up to 120 by DPsva, so all tables stay below 1 GiB.
+// of twenty relations. A set takes some 34 bytes in them, and up to 50 by DPsva, so all tables stay below 1 GiB.
 const SETS_AT_ONCE: usize = 1 << 23;
 
 // Queries that have fewer sets than this, all together, are planned sooner than threads are started.

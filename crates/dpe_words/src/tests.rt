@@ -178,6 +178,7 @@ fn modes_and_their_names(rt: HostRuntime) -> Result<(), Fail> {
         ("narrow", Mode::Narrow),
         ("zigzag", Mode::Zigzag),
         ("leftdeep", Mode::Leftdeep),
+        ("reopt", Mode::Reopt),
     ] {
         let want = Settings { mode, ..DEFAULTS };
         assert_eq!(rt; settings_of(alloc, &["--mode", name]), Ok(want), "{name}");

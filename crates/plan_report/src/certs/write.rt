@@ -27,8 +27,10 @@ fn file_to_value(
 }
 
 /// The text of a certificate file with this workload, in which no number has a point or an exponent, and with a member for
-/// each query: its certificate, or null. It is compact, and no newline stands at its end. [`read_certs`](crate::read_certs) reads it
-/// as it was written.
+/// each query: its certificate, or null. It is compact, and no newline stands at its end.
+///
+/// [`read_certs`](crate::read_certs) reads it as it was written where the workload has no fault, each member may stand for its query,
+/// and neither the numbers nor the levels of the file are more than is read.
 ///
 /// Fails where there is no memory.
 pub fn write_certs(

@@ -14,7 +14,7 @@ use pair_stream::{DpSub, collect_pairs};
 use std::alloc::{AllocError, Global};
 use std::test::Fail;
 
-// The rows of a set of the query's relations.
+/// The rows of a set of the query's relations.
 pub fn rows(query: &Query, cards: &CardTable, s: RelSet) -> u64
     requires { IsCardTable query.now cards.now }
     ensures { (1 ≤ result) × (result ≤ ROW_CAP) }
@@ -25,6 +25,7 @@ pub fn rows(query: &Query, cards: &CardTable, s: RelSet) -> u64
     cards.rows(s).max(1).min(ROW_CAP)
 }
 
+/// The word of a set, and `EMPTY` where there is none.
 pub fn word_at(words: &[u64], s: RelSet) -> u64 {
     match words.get(s.bits() as usize) {
         Some(word) => *word,
@@ -77,7 +78,7 @@ fn worked<M: CostModel>(
     Ok(words)
 }
 
-// The words of the class, by the quick way.
+/// The words of the class, by the quick way.
 pub fn quick_words<M: CostModel>(
     alloc: Global,
     model: &M,
